@@ -7,6 +7,7 @@ use Prim.Native.Nat.{ℕ, zero, suc, _+_, _≤_, _<_}
 use native.Mathlib.Omega.{arith}
 use lib.Dec.{leb, ltb}
 use lib.ListN.{length, length-append}
+use Rattle.grammar.specs.Reader.{either, orP}
 use Rattle.std.proofs.shelf.Tests.{leb-true, leb-false, le-leb, lt-leb, and-parts, or-cases, or-parts, or-from, and-left, and-right, ltb-true, or-left, or-right, and-from}
 use Rattle.grammar.specs.Parse.{Out, ok, bad, deep, Res, res, mapO, mapR, Lang, Parser, Class, within, starts, Free, Opening, oneL, oneP, epsL, epsP, seqL, bind, seqP, altL, pick, altP, mapL, mapP, iterate, iterL, onto, turn, loop, iterP}
 
@@ -61,6 +62,10 @@ pub free-none : (t : List ℕ) → Free [] t
 free-none [] = tt
 free-none (b ∷ t) = refl
 
+pub free-both : (c d : Class) (t : List ℕ) → Free c t → Free d t → Free (c ++ d) t
+free-both c d [] f g = tt
+free-both c d (b ∷ t) f g = within-app c d b ∙ or-from (within c b) (within d b) f g
+
 pub free-front : (c : Class) (x y : List ℕ) → Free c (x ++ y) → Free c x
 free-front c [] y h = tt
 free-front c (b ∷ x) y h = h
@@ -107,7 +112,7 @@ abbrev pub covers : Class → Class → Bool
 covers d [] = true
 covers d (r ∷ rs) = inside r d && covers d rs
 
-inside-ok : (r : ℕ × ℕ) (d : Class) → inside r d ≡ true → (b : ℕ) → r .0 ≤ b → b ≤ r .1 → within d b ≡ true
+pub inside-ok : (r : ℕ × ℕ) (d : Class) → inside r d ≡ true → (b : ℕ) → r .0 ≤ b → b ≤ r .1 → within d b ≡ true
 inside-ok r [] h b lo hi = absurd (false≢true h)
 inside-ok r (q ∷ qs) h b lo hi =
     elim (or-cases (leb (q .0) (r .0) && leb (r .1) (q .1)) (inside r qs) h)
@@ -359,6 +364,128 @@ module _ {A B : Type 0} (L : Lang A) (p : Parser A) (first : Class) (null : A �
     ; null-ok = alt-null-ok hn
     ; means = λ s. alt-means s (starts first s) refl
     ; complete = alt-complete hn d }
+
+-- one after the other, where what follows does not go on the first
+abbrev pub tiedL : {A B : Type 0} → Lang A → (A → Class) → Lang B → Lang (A × B)
+tiedL L ext M x w = (u : List ℕ) × (v : List ℕ) × (w ≡ u ++ v) × L (x .0) u × Free (ext (x .0)) v × M (x .1) v
+
+module _ {A B : Type 0} (L : Lang A) (p : Parser A) (first : Class) (null : A → Bool) (ext : A → Class) (h : Laws L p first null ext) (M : Lang B) (q : Parser B) (first2 : Class) (null2 : B → Bool) (ext2 : B → Class) (k : Laws M q first2 null2 ext2) (greedy : (s : List ℕ) (a : A) (t : List ℕ) → p s ≡ res (ok a) t → Free (ext a) t) (c : B) (l : M c []) where
+  tied-says : (a : A) (x y r : List ℕ) → L a x → Free (ext a) (y ++ r) → (o : Out B) → Says M y o → Says (tiedL L ext M) (x ++ y) (mapO (λ b. (a, b)) o)
+  tied-says a x y r z g (ok b) n = (x, y, refl, z, free-front (ext a) y r g, n)
+  tied-says a x [] r z g bad n = ([], (a, c), (x, [], ap (λ y. y ++ []) (append-nil x), z, tt, l))
+  tied-says a x (b ∷ y) r z g bad n = (n .0, (a, n .1), (x, (b ∷ y) ++ n .0, append-assoc x (b ∷ y) (n .0), z, g, n .2))
+  tied-says a x [] r z g deep n = ([], (a, c), (x, [], ap (λ y. y ++ []) (append-nil x), z, tt, l))
+  tied-says a x (b ∷ y) r z g deep n = (n .0, (a, n .1), (x, (b ∷ y) ++ n .0, append-assoc x (b ∷ y) (n .0), z, g, n .2))
+
+  tied-second : (s : List ℕ) (a : A) (t : List ℕ) → Free (ext a) t → Means L p s (res (ok a) t) → (y : Res B) → Means M q t y → Means (tiedL L ext M) (seqP p q) s (mapR (λ b. (a, b)) y)
+  tied-second s a t g m (res o r) n =
+      ( m .0 ++ n .0
+      , m .1 ∙ ap (λ y. m .0 ++ y) (n .1) ∙ sym (append-assoc (m .0) (n .0) r)
+      , tied-says a (m .0) (n .0) r (m .2) (subst (Free (ext a)) (n .1) g) o (n .2)
+      , ag r (n .1) (n .3), halts-map (λ b. (a, b)) o r (n .4))
+    where
+      ag : (r : List ℕ) → t ≡ n .0 ++ r → Again q (n .0) o r → Again (seqP p q) (m .0 ++ n .0) (mapO (λ b. (a, b)) o) r
+      ag [] e z = tt
+      ag (b ∷ r) e z = λ w. rw append-assoc (ap (bind q) (carry p (m .0) (ok a) t (m .3) (n .0) b r e w) ∙ ap (mapR (λ b. (a, b))) (z w))
+
+  tied-early : (s : List ℕ) (o : Out A) (o2 : Out (A × B)) (t : List ℕ) → ((r : List ℕ) → bind q (res o r) ≡ res o2 r) → (m : Means L p s (res o t)) → Says (tiedL L ext M) (m .0) o2 → Halts o2 t → Means (tiedL L ext M) (seqP p q) s (res o2 t)
+  tied-early s o o2 t f m y z = (m .0, m .1, y, ag t (m .3), z)
+    where
+      ag : (t : List ℕ) → Again p (m .0) o t → Again (seqP p q) (m .0) o2 t
+      ag [] z = tt
+      ag (b ∷ t) z = λ w. ap (bind q) (z w) ∙ f (b ∷ w)
+
+  tied-means : (s : List ℕ) (x : Res A) → p s ≡ x → Means L p s x → Means (tiedL L ext M) (seqP p q) s (bind q x)
+  tied-means s (res (ok a) t) e m = tied-second s a t (greedy s a t e) m (q t) (k .means t)
+  tied-means s (res bad t) e m = tied-early s bad bad t (λ r. refl) m (m .2 .0, (m .2 .1, c), (m .0 ++ m .2 .0, [], sym (append-nil (m .0 ++ m .2 .0)), m .2 .2, tt, l)) tt
+  tied-means s (res deep t) e m = tied-early s deep deep t (λ r. refl) m (m .2 .0, (m .2 .1, c), (m .0 ++ m .2 .0, [], sym (append-nil (m .0 ++ m .2 .0)), m .2 .2, tt, l)) (m .4)
+
+  tied-free : (a : A) (d : B) (v t : List ℕ) → Free (ext a) v → M d v → Free (ext2 d ++ cond (null2 d) (ext a) []) t → Free (ext a) (v ++ t)
+  tied-free a d [] t g z f = subst (λ y. Free (cond y (ext a) []) t) (k .null-ok d z) (free-right (ext2 d) (cond (null2 d) (ext a) []) t f)
+  tied-free a d (b ∷ v) t g z f = g
+
+  tied-first : (x : A × B) (b : ℕ) (w u v : List ℕ) → b ∷ w ≡ u ++ v → L (x .0) u → M (x .1) v → within (first ++ first2) b ≡ true
+  tied-first x b w [] v e y m = in-right first first2 b (k .first-ok (x .1) b w (subst (M (x .1)) (sym e) m))
+  tied-first x b w (d ∷ u) v e y m = in-left first first2 b (subst (λ y. within first y ≡ true) (sym (head-eq-of-cons-eq e)) (h .first-ok (x .0) d u y))
+
+  pub tied-laws : Laws (tiedL L ext M) (seqP p q) (first ++ first2) (λ x. null (x .0) && null2 (x .1)) (λ x. ext2 (x .1) ++ cond (null2 (x .1)) (ext (x .0)) [])
+  tied-laws = record
+    { first-ok = λ x b w z. tied-first x b w (z .0) (z .1) (z .2) (z .3) (z .5)
+    ; null-ok = λ x z. (let e = app-nil (z .0) (z .1) (z .2) in
+        and-from (null (x .0)) (null2 (x .1)) (h .null-ok (x .0) (subst (L (x .0)) (e .0) (z .3))) (k .null-ok (x .1) (subst (M (x .1)) (e .1) (z .5))))
+    ; means = λ s. tied-means s (p s) refl (h .means s)
+    ; complete = λ x w t z f.
+        ap (λ y. bind q (p (y ++ t))) (z .2)
+        ∙ ap (λ y. bind q (p y)) (append-assoc (z .0) (z .1) t)
+        ∙ ap (bind q) (h .complete (x .0) (z .0) (z .1 ++ t) (z .3) (tied-free (x .0) (x .1) (z .1) t (z .4) (z .5) f))
+        ∙ ap (mapR (λ b. (x .0, b))) (k .complete (x .1) (z .1) t (z .5) (free-left (ext2 (x .1)) (cond (null2 (x .1)) (ext (x .0)) []) t f)) }
+
+-- one or the other where the result does not say which, with one class behind both
+module _ {A : Type 0} (L M : Lang A) (p q : Parser A) (f g : Class) (n : A → Bool) (e : A → Class) (h : Laws L p f (λ _. false) e) (k : Laws M q g n e) where
+  abbrev pub OrL : Lang A
+  OrL a u = L a u ⊎ M a u
+
+  or-to : (x : A ⊎ A) (u : List ℕ) → altL L M x u → OrL (either x) u
+  or-to (inl a) u l = inl l
+  or-to (inr b) u l = inr l
+
+  or-back : (a : A) (u : List ℕ) → OrL a u → (x : A ⊎ A) × (either x ≡ a) × altL L M x u
+  or-back a u (inl l) = (inl a, refl, l)
+  or-back a u (inr l) = (inr a, refl, l)
+
+  or-null : (x : A ⊎ A) → alt-null L p f (λ _. false) e h M q g n e k x ≡ true → n (either x) ≡ true
+  or-null (inl a) z = absurd (false≢true z)
+  or-null (inr b) z = z
+
+  pub choice-laws : apart g f ≡ true → ((b : A) (u t : List ℕ) → M b u → n b ≡ true → Free (e b) t → Free f t) → Laws OrL (orP f p q) (f ++ g) n e
+  choice-laws d w = conv-laws either (altL L M) OrL (altP f p q) (f ++ g) _ _ (alt-laws L p f (λ _. false) e h M q g n e k (λ a. refl) d) or-to or-back n e or-null free
+    where
+      behind : (b : A) (u t : List ℕ) → M b u → Free (e b) t → (v : Bool) → n b ≡ v → Free (cond v f []) t
+      behind b u t l y true z = w b u t l z y
+      behind b u t l y false z = free-none t
+      free : (x : A ⊎ A) (u t : List ℕ) → altL L M x u → Free (e (either x)) t → Free (alt-ext L p f (λ _. false) e h M q g n e k x) t
+      free (inl a) u t l y = y
+      free (inr b) u t l y = free-both (e b) (cond (n b) f []) t y (behind b u t l y (n b) refl)
+
+-- what a parser leaves does not go on what it read
+abbrev pub Fine : {A : Type 0} → (A → Class) → Res A → Type 0
+Fine e (res (ok a) t) = Free (e a) t
+Fine e (res bad t) = Unit {0}
+Fine e (res deep t) = Unit {0}
+
+pub fine-map : {A B : Type 0} (f : A → B) (e : B → Class) (x : Res A) → Fine (λ a. e (f a)) x → Fine e (mapR f x)
+fine-map f e (res (ok a) t) h = h
+fine-map f e (res bad t) h = tt
+fine-map f e (res deep t) h = tt
+
+pub fine-bind : {A B : Type 0} (q : Parser B) (e : A × B → Class) (x : Res A) → ((a : A) (t : List ℕ) → Fine (λ b. e (a, b)) (q t)) → Fine e (bind q x)
+fine-bind q e (res (ok a) t) h = fine-map (λ b. (a, b)) e (q t) (h a t)
+fine-bind q e (res bad t) h = tt
+fine-bind q e (res deep t) h = tt
+
+pub fine-next : {A B : Type 0} (q : Parser B) (d : A → Class) (e : A × B → Class) (x : Res A) → Fine d x → ((a : A) (t : List ℕ) → Free (d a) t → Fine (λ b. e (a, b)) (q t)) → Fine e (bind q x)
+fine-next q d e (res (ok a) t) g h = fine-map (λ b. (a, b)) e (q t) (h a t g)
+fine-next q d e (res bad t) g h = tt
+fine-next q d e (res deep t) g h = tt
+
+pub fine-pick : {A B : Type 0} (v : Bool) (p : Parser A) (q : Parser B) (s : List ℕ) (e : A ⊎ B → Class) → (v ≡ true → Fine (λ a. e (inl a)) (p s)) → (v ≡ false → Fine (λ b. e (inr b)) (q s)) → Fine e (pick v p q s)
+fine-pick true p q s e h k = fine-map inl e (p s) (h refl)
+fine-pick false p q s e h k = fine-map inr e (q s) (k refl)
+
+pub fine-turn : {A B : Type 0} (k : Parser (List A × B)) (e : B → Class) (x : Res (A ⊎ B)) → Fine (λ y. elim y [ inl a ↦ [] | inr c ↦ e c ]) x → ((t : List ℕ) → Fine (λ y. e (y .1)) (k t)) → Fine (λ y. e (y .1)) (turn k x)
+fine-turn k e (res (ok (inl a)) t) h z = fine-map (onto a) (λ y. e (y .1)) (k t) (z t)
+fine-turn k e (res (ok (inr c)) t) h z = h
+fine-turn k e (res bad t) h z = tt
+fine-turn k e (res deep t) h z = tt
+
+pub fine-loop : {A B : Type 0} (p : Parser (A ⊎ B)) (e : B → Class) → ((s : List ℕ) → Fine (λ y. elim y [ inl a ↦ [] | inr c ↦ e c ]) (p s)) → (n : ℕ) (s : List ℕ) → Fine (λ y. e (y .1)) (loop n p s)
+fine-loop p e h zero s = tt
+fine-loop p e h (suc n) s = fine-turn (loop n p) e (p s) (h s) (λ t. fine-loop p e h n t)
+
+pub fine-any : {A : Type 0} (x : Res A) → Fine (λ _. []) x
+fine-any (res (ok a) t) = free-none t
+fine-any (res bad t) = tt
+fine-any (res deep t) = tt
 
 -- again and again
 module _ {A B : Type 0} (L : Lang (A ⊎ B)) (p : Parser (A ⊎ B)) (first : Class) (null : A ⊎ B → Bool) (ext : A ⊎ B → Class) (h : Laws L p first null ext) (go-on : (a : A) → null (inl a) ≡ false) where

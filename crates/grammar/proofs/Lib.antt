@@ -1,4 +1,7 @@
 pub mod Laws
 pub mod Bytes
 pub mod Chars
+pub mod Blocks
+pub mod Trivias
+pub mod Gaps
 mod Examples
