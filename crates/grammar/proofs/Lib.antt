@@ -4,4 +4,5 @@ pub mod Chars
 pub mod Blocks
 pub mod Trivias
 pub mod Gaps
+pub mod Values
 mod Examples
