@@ -16,18 +16,18 @@ use Rattle.grammar.proofs.Bytes.{Of, ByteLaws, is-only}
 use Rattle.grammar.proofs.Chars.{char-laws}
 
 -- a star goes on if no slash follows
-abbrev starExt : List ℕ → Class
+abbrev pub starExt : List ℕ → Class
 starExt [] = []
 starExt (b ∷ t) = cond (eqb b 42) (only 47) []
 
-abbrev TurnL : Lang (List ℕ ⊎ List ℕ)
+abbrev pub TurnL : Lang (List ℕ ⊎ List ℕ)
 TurnL (inl t) u = (t ≡ u) × Char Ascii u
 TurnL (inr t) u = (t ≡ u) × (u ≡ 42 ∷ 47 ∷ [])
 
-abbrev turnNull : List ℕ ⊎ List ℕ → Bool
+abbrev pub turnNull : List ℕ ⊎ List ℕ → Bool
 turnNull x = false
 
-abbrev turnExt : List ℕ ⊎ List ℕ → Class
+abbrev pub turnExt : List ℕ ⊎ List ℕ → Class
 turnExt (inl t) = starExt t
 turnExt (inr t) = []
 
@@ -147,7 +147,7 @@ turn-free (inr x) u t l f = free-none t
 abbrev pub BlockFirst : Class
 BlockFirst = only 42 ++ (InBlock ++ MultiFirst)
 
-turn-laws : Laws TurnL blockTurnP BlockFirst turnNull turnExt
+pub turn-laws : Laws TurnL blockTurnP BlockFirst turnNull turnExt
 turn-laws = conv-laws blockTurn (altL StarL CharL) TurnL turnP BlockFirst raw-null raw-ext raw-laws turn-to turn-from turnNull turnExt turn-null turn-free
 
 -- after a turn that goes on, nothing follows that would have ended it

@@ -137,16 +137,16 @@ word-laws b (c ∷ w) h k = say (Cat (Is (only b)) (λ u. u ≡ c ∷ w)) (λ u.
 
 -- as many as come
 module _ (P : List ℕ → Type 0) (p : Parser (List ℕ)) (f : Class) (h : ByteLaws P p f false []) where
-  abbrev TurnL : Lang (List ℕ ⊎ List ℕ)
+  abbrev pub TurnL : Lang (List ℕ ⊎ List ℕ)
   TurnL = altL (Of P) (Of Empty)
 
-  abbrev unit-null : List ℕ ⊎ List ℕ → Bool
+  abbrev pub unit-null : List ℕ ⊎ List ℕ → Bool
   unit-null x = Rattle.grammar.proofs.Laws.alt-null (Of P) p f (λ _. false) (λ _. []) h (Of Empty) emptyP [] (λ _. true) (λ _. []) empty-laws x
 
-  abbrev unit-ext : List ℕ ⊎ List ℕ → Class
+  abbrev pub unit-ext : List ℕ ⊎ List ℕ → Class
   unit-ext x = Rattle.grammar.proofs.Laws.alt-ext (Of P) p f (λ _. false) (λ _. []) h (Of Empty) emptyP [] (λ _. true) (λ _. []) empty-laws x
 
-  unit-laws : Laws TurnL (altP f p emptyP) (f ++ []) unit-null unit-ext
+  pub unit-laws : Laws TurnL (altP f p emptyP) (f ++ []) unit-null unit-ext
   unit-laws = alt-laws (Of P) p f (λ _. false) (λ _. []) h (Of Empty) emptyP [] (λ _. true) (λ _. []) empty-laws (λ a. refl) refl
 
   many-to : (a : List (List ℕ)) (e : List ℕ) (w : List ℕ) → iterate TurnL (λ a. unit-ext (inl a)) a e w → Of (Many P) (concats a e) w

@@ -392,7 +392,7 @@ strchar-from (unescaped m) = inr m
 strchar-from (escape b h) = inl (92 ∷ [], b ∷ [], refl, (92, refl, refl), inr (b, refl, h))
 strchar-from (unicode a b c d h k m n) = inl (92 ∷ [], 117 ∷ a ∷ b ∷ c ∷ d ∷ [], refl, (92, refl, refl), inl (117 ∷ [], a ∷ b ∷ c ∷ d ∷ [], refl, (117, refl, refl), mk4 Hex Hex Hex Hex a b c d h k m n))
 
-strchar-laws : ByteLaws StringChar stringCharP StringFirst false []
+pub strchar-laws : ByteLaws StringChar stringCharP StringFirst false []
 strchar-laws = say (Or Escape2 (Char Plain)) StringChar stringCharP StringFirst false [] (or-laws Escape2 (Char Plain) escapeP (charP Plain) (only 92) (Plain ++ MultiFirst) false [] [] escape-laws (char-laws Plain 32 refl refl) refl) strchar-to (λ u l. strchar-from l)
 
 -- a string with its quotes

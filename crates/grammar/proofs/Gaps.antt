@@ -21,7 +21,7 @@ PlainL a u = SpaceL a u ⊎ NewlineL a u
 plain-laws : Laws PlainL plainP (Blank ++ LineEnd) (λ _. false) wide
 plain-laws = choice-laws SpaceL NewlineL spaceP newlineP Blank LineEnd (λ _. false) wide space-laws newline-laws refl (λ b u t l e f. absurd (false≢true e))
 
-abbrev OnL : Lang (Pieces ⊎ Pieces)
+abbrev pub OnL : Lang (Pieces ⊎ Pieces)
 OnL (inl a) u = PlainL a u
 OnL (inr a) u = ⊥
 
@@ -32,23 +32,23 @@ on-laws = conv-laws inl PlainL OnL plainP (Blank ++ LineEnd) (λ _. false) wide 
     from (inl a) u l = (a, refl, l)
     from (inr a) u l = absurd l
 
-abbrev PieceL : Bool → Lang (Pieces ⊎ Pieces)
+abbrev pub PieceL : Bool → Lang (Pieces ⊎ Pieces)
 PieceL last x u = CommentL last x u ⊎ OnL x u
 
 piece-laws : (last : Bool) → Laws (PieceL last) (pieceP last) Gap (λ _. false) unitExt
 piece-laws last = choice-laws (CommentL last) OnL (commentP last) (mapP inl plainP) (only 47) (Blank ++ LineEnd) (λ _. false) unitExt (comment-laws last) on-laws refl (λ b u t l e f. absurd (false≢true e))
 
 -- or nothing more
-abbrev HaltL : Lang (Pieces ⊎ Pieces)
+abbrev pub HaltL : Lang (Pieces ⊎ Pieces)
 HaltL (inl a) u = ⊥
 HaltL (inr a) u = (a ≡ end) × (u ≡ [])
 
-abbrev haltNull : Pieces → Bool
+abbrev pub haltNull : Pieces → Bool
 haltNull end = true
 haltNull (leaf x r) = false
 haltNull (box k c r) = false
 
-abbrev unitNull : Pieces ⊎ Pieces → Bool
+abbrev pub unitNull : Pieces ⊎ Pieces → Bool
 unitNull (inl a) = false
 unitNull (inr a) = haltNull a
 
@@ -66,7 +66,7 @@ halt-laws = conv-laws (λ _. inr end) epsL HaltL epsP [] (λ _. true) (λ _. [])
 abbrev pub UnitL : Bool → Lang (Pieces ⊎ Pieces)
 UnitL last x u = PieceL last x u ⊎ HaltL x u
 
-unit-laws : (last : Bool) → Laws (UnitL last) (unitP last) Gap unitNull unitExt
+pub unit-laws : (last : Bool) → Laws (UnitL last) (unitP last) Gap unitNull unitExt
 unit-laws last = choice-laws (PieceL last) HaltL (pieceP last) (mapP inr nothingP) Gap [] unitNull unitExt (piece-laws last) halt-laws refl halt-free
 
 -- nothing that is left goes on a piece

@@ -5,4 +5,6 @@ pub mod Blocks
 pub mod Trivias
 pub mod Gaps
 pub mod Values
+pub mod Calm
+pub mod Depth
 mod Examples

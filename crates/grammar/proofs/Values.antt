@@ -104,7 +104,7 @@ scalar-laws =
 abbrev pub ValueOf : Lang Pieces → Lang Pieces
 ValueOf N a u = N a u ⊎ ScalarL a u
 
-abbrev ValueLaws : Lang Pieces → Parser Pieces → Type 0
+abbrev pub ValueLaws : Lang Pieces → Parser Pieces → Type 0
 ValueLaws V v = Laws V v ValueFirst (λ _. false) (λ _. NumberMore)
 
 -- the languages of a container's parts, given the values inside it
@@ -170,7 +170,7 @@ module _ (V : Lang Pieces) (v : Parser Pieces) (h : ValueLaws V v) (c : Pieces) 
         (leaf (token colon) c) (58 ∷ w) ((end, leaf (token colon) c), refl, ([], 58 ∷ w, refl, no-trivia, ((only-leaf (token colon), c), refl, (58 ∷ [], w, refl, (refl, refl), ((end, c), refl, ([], w, refl, no-trivia, z)))))))
       (λ _. false) (λ _. NumberMore) (λ a e. e) (λ a u t l f. f)
 
-  abbrev itemFirst : Frame → Class
+  abbrev pub itemFirst : Frame → Class
   itemFirst brackets = ValueFirst
   itemFirst braces = only 34
 
@@ -234,7 +234,7 @@ module _ (V : Lang Pieces) (v : Parser Pieces) (h : ValueLaws V v) (c : Pieces) 
   shut-laws : (f : Frame) → Laws (CloseL f) (mapP inr (tokenP (closeToken f))) (only (closer f)) (λ _. false) (λ _. [])
   shut-laws f = map-laws inr (TokenL (closeToken f)) (tokenP (closeToken f)) (only (closer f)) (λ _. false) (λ _. []) (close-laws f) (λ _. false) (λ _. []) (λ a e. e) (λ a u t l x. x)
 
-  turn-laws : (f : Frame) → Laws (TurnL V f) (turnP f v) (Gap ++ (only (closer f) ++ (itemFirst f ++ []))) (λ _. false) (λ _. [])
+  pub turn-laws : (f : Frame) → Laws (TurnL V f) (turnP f v) (Gap ++ (only (closer f) ++ (itemFirst f ++ []))) (λ _. false) (λ _. [])
   turn-laws f = pair-laws (λ x. ahead (x .0) (x .1)) (TriviaL false) (λ x u. CloseL f x u ⊎ FromItemL V f x u) (triviaP false) (orP (only (closer f)) (mapP inr (tokenP (closeToken f))) (afterP (itemP f v) (afterP (triviaP false) (endP f)))) Gap (only (closer f) ++ (itemFirst f ++ [])) true false Gap [] inner-laws
       (choice-laws (CloseL f) (FromItemL V f) (mapP inr (tokenP (closeToken f))) (afterP (itemP f v) (afterP (triviaP false) (endP f))) (only (closer f)) (itemFirst f ++ []) (λ _. false) (λ _. []) (shut-laws f) (from-item f) (first-apart f) (λ b u t l e x. absurd (false≢true e)))
       (turn-apart f) (inr (only-leaf (token (closeToken f)))) (tokenByte (closeToken f) ∷ []) (inl (only-leaf (token (closeToken f)), refl, (refl, refl)))
@@ -324,7 +324,7 @@ flat-laws = record { first-ok = first; null-ok = nul; means = λ s. flat-means s
     comp a u t (inl l) f = absurd l
     comp a u t (inr l) f = flat-complete a u t l f
 
-some-value : (n : ℕ) → ValueL n (only-leaf (numeral (48 ∷ []))) (48 ∷ [])
+pub some-value : (n : ℕ) → ValueL n (only-leaf (numeral (48 ∷ []))) (48 ∷ [])
 some-value n = inr nought
 
 nested-laws : (n : ℕ) → ValueLaws (ValueL n) (valueP n) → Laws (NestedL (suc n)) (nestedP (suc n)) Opening (λ _. false) (λ _. NumberMore)
