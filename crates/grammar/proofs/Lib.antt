@@ -7,4 +7,5 @@ pub mod Gaps
 pub mod Values
 pub mod Calm
 pub mod Depth
+pub mod Laid
 mod Examples
