@@ -8,4 +8,5 @@ pub mod Values
 pub mod Calm
 pub mod Depth
 pub mod Laid
+pub mod Sentences
 mod Examples
