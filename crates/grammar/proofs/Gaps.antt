@@ -135,7 +135,7 @@ abbrev pub RunL : Bool → List Pieces → Pieces → List ℕ → Type 0
 RunL last xs c u = iterate (UnitL last) wide xs c u
 
 -- what goes on trivia: anything that begins a piece; behind a line comment that is open, more of it
-abbrev trailLeaf : Leaf → Class
+abbrev pub trailLeaf : Leaf → Class
 trailLeaf null = Gap
 trailLeaf (boolean b) = Gap
 trailLeaf (number t) = Gap
@@ -147,7 +147,7 @@ trailLeaf (newline k) = Gap
 trailLeaf (comment (Line t)) = OpenMore
 trailLeaf (comment (Block t)) = Gap
 
-abbrev trailAt : Class → Pieces → Class
+abbrev pub trailAt : Class → Pieces → Class
 trailAt c end = c
 trailAt c (leaf x r) = trailAt (trailLeaf x) r
 trailAt c (box k i r) = trailAt Gap r
@@ -236,7 +236,7 @@ trivia-laws last = Rattle.grammar.proofs.Laws.map-laws (λ x. joins (x .0) (x 
     free x u t l f = (let k = stop-of last (x .0) (x .1) u l in run-free last (x .1) (k .0) t (k .1) (subst (λ y. Free y t) (trail-run last (x .0) (x .1) u l) f))
 
 -- inside a container no line comment stays open
-inner-trail : (xs : List Pieces) (c : Pieces) (u : List ℕ) → RunL false xs c u → stopWide c ≡ Gap
+pub inner-trail : (xs : List Pieces) (c : Pieces) (u : List ℕ) → RunL false xs c u → stopWide c ≡ Gap
 inner-trail [] c u (inl (inl k)) = absurd (false≢true (k .0))
 inner-trail [] c u (inl (inr k)) = absurd k
 inner-trail [] c u (inr k) = ap stopWide (k .0)

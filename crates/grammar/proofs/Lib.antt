@@ -9,4 +9,5 @@ pub mod Calm
 pub mod Depth
 pub mod Laid
 pub mod Sentences
+pub mod Texts
 mod Examples

@@ -52,11 +52,11 @@ never-on f c u l = (let e = l .1 in let z : _≡_ {A = ℕ} 0 1 = cc in omega ar
 shut-of : (f : Frame) (c : Pieces) (u : List ℕ) → CloseL f (inr c) u → TokenL (closeToken f) c u
 shut-of f c u l = (let e = l .1 in let i : l .0 ≡ c = cc in subst (λ y. TokenL (closeToken f) y u) i (l .2))
 
-closing : (f : Frame) (b : Bool) → lay (only-leaf (token (closeToken f))) b ≡ shut b
+pub closing : (f : Frame) (b : Bool) → lay (only-leaf (token (closeToken f))) b ≡ shut b
 closing brackets b = refl
 closing braces b = refl
 
-close-byte : (f : Frame) → tokenByte (closeToken f) ≡ closer f
+pub close-byte : (f : Frame) → tokenByte (closeToken f) ≡ closer f
 close-byte brackets = refl
 close-byte braces = refl
 
@@ -87,7 +87,7 @@ scalar-to n a u (inr (inr (inr (inl (e, q))))) = subst (λ y. Reading Value n y 
 scalar-to n a u (inr (inr (inr (inr (e, m))))) = subst (λ y. Reading Value n y u) (sym e) (record
   { label = Numeral u; inside = stop false; is = numeral m; laid = λ r b. refl; depth = omega arith; printed = append-nil u })
 
-shut-levels : (h : Between) → levels (after h shut) ≡ 0
+pub shut-levels : (h : Between) → levels (after h shut) ≡ 0
 shut-levels h = after-levels h shut 0 (λ b. refl)
 
 module _ (n : ℕ) (V : Lang Pieces) (read : (a : Pieces) (u : List ℕ) → V a u → Reading Value n a u) where
