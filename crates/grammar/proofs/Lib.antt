@@ -10,4 +10,5 @@ pub mod Depth
 pub mod Laid
 pub mod Sentences
 pub mod Texts
+pub mod Whole
 mod Examples
