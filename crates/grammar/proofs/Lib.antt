@@ -11,4 +11,4 @@ pub mod Laid
 pub mod Sentences
 pub mod Texts
 pub mod Whole
-mod Examples
+pub mod Examples

@@ -5,3 +5,4 @@ pub mod Grammar
 pub mod Pieces
 pub mod Reader
 pub mod Answer
+pub mod Examples
