@@ -52,6 +52,7 @@ slash-laws = Rattle.grammar.proofs.Laws.wide-laws SlashL (altP (only 47) (oneP
     nul : (x : ℕ ⊎ Unit {0}) → alt-null (oneL (only 47)) (oneP (only 47)) (only 47) (λ _. false) (λ _. []) (one-laws (only 47) 47 refl) epsL epsP [] (λ _. true) (λ _. []) eps-laws x ≡ true → slashNull x ≡ true
     nul (inl b) e = e
     nul (inr b) e = refl
+
     ext : (x : ℕ ⊎ Unit {0}) (u t : List ℕ) → SlashL x u → Free (slashExt x) t → Free (alt-ext (oneL (only 47)) (oneP (only 47)) (only 47) (λ _. false) (λ _. []) (one-laws (only 47) 47 refl) epsL epsP [] (λ _. true) (λ _. []) eps-laws x) t
     ext (inl b) u t l f = f
     ext (inr b) u t l f = f
@@ -85,6 +86,7 @@ star-or b h = go (eqb b 42) refl (within InBlock b) refl
   where
     hi : b ≤ 127
     hi = elim (or-cases (leb 0 b && leb b 127) false h) [ inl e ↦ leb-true b 127 (and-parts (leb 0 b) (leb b 127) e .1) | inr e ↦ absurd (false≢true e) ]
+
     go : (v : Bool) → eqb b 42 ≡ v → (w : Bool) → within InBlock b ≡ w → (b ≡ 42) ⊎ (within InBlock b ≡ true)
     go true e w f = inl (eqb-true b 42 e)
     go false e true f = inr f
@@ -92,13 +94,16 @@ star-or b h = go (eqb b 42) refl (within InBlock b) refl
       where
         ne : b ≡ 42 → ⊥
         ne = eqb-false b 42 e
+
         none : within InBlock b ≡ false → ⊥
         none z =
-            elim (cases-lt b 42)
-              [ inl lt ↦ true≢false (sym (Rattle.grammar.proofs.Laws.inside-ok (0, 41) InBlock refl b (omega arith) (omega arith)) ∙ z)
-              | inr ge ↦ elim (cases-lt 42 b)
-                  [ inl lt ↦ true≢false (sym (Rattle.grammar.proofs.Laws.inside-ok (43, 127) InBlock refl b (omega arith) hi) ∙ z)
-                  | inr le ↦ ne (omega arith) ] ]
+            elim (cases-lt b 42) [
+              | inl lt ↦ true≢false (sym (Rattle.grammar.proofs.Laws.inside-ok (0, 41) InBlock refl b (omega arith) (omega arith)) ∙ z)
+              | inr ge ↦ elim (cases-lt 42 b) [
+                | inl lt ↦ true≢false (sym (Rattle.grammar.proofs.Laws.inside-ok (43, 127) InBlock refl b (omega arith) hi) ∙ z)
+                | inr le ↦ ne (omega arith)
+              ]
+            ]
 
 widen : {u : List ℕ} → Char InBlock u → Char Ascii u
 widen (one b h) = one b (covers-ok Ascii InBlock refl b h)
@@ -118,9 +123,10 @@ char-cases (one b h) = elim (star-or b h) [ inl e ↦ inl (ap (λ y. y ∷ []) e
 char-cases (several m) = inr (several m)
 
 turn-from : (x : List ℕ ⊎ List ℕ) (u : List ℕ) → TurnL x u → (a : Raw) × (blockTurn a ≡ x) × altL StarL CharL a u
-turn-from (inl t) u l = elim (char-cases (l .1))
-    [ inl e ↦ (inl (42, inr tt), ap inl (sym (l .0 ∙ e)), (42 ∷ [], [], e, (refl, refl), refl))
-    | inr k ↦ (inr t, refl, (l .0, k)) ]
+turn-from (inl t) u l = elim (char-cases (l .1)) [
+  | inl e ↦ (inl (42, inr tt), ap inl (sym (l .0 ∙ e)), (42 ∷ [], [], e, (refl, refl), refl))
+  | inr k ↦ (inr t, refl, (l .0, k))
+]
 turn-from (inr t) u l = (inl (42, inl 47), ap inr (sym (l .0 ∙ l .1)), (42 ∷ [], 47 ∷ [], l .1, (refl, refl), (refl, refl)))
 
 abbrev turnP : Parser Raw
@@ -174,9 +180,11 @@ fine-slash b (c ∷ t) = go (within (only 47) c) refl
     also : (v : Bool) → within (only 47) c ≡ false → within (cond v (only 47) []) c ≡ false
     also true e = e
     also false e = refl
+
     inner : (v : Bool) → Fine (mapR blockTurn (mapR inl (mapR (λ x. (b, x)) (mapR inl (cond v (res (ok c) t) (res bad (c ∷ t)))))))
     inner true = tt
     inner false = tt
+
     go : (v : Bool) → within (only 47) c ≡ v → Fine (mapR blockTurn (mapR inl (mapR (λ x. (b, x)) (pick v (oneP (only 47)) epsP (c ∷ t)))))
     go true e = inner (within (only 47) c)
     go false e = also (eqb b 42) e
@@ -193,6 +201,7 @@ fine (b ∷ t) = go (within (only 42) b) refl
     star : (v : Bool) → Fine (mapR blockTurn (mapR inl (bind (altP (only 47) (oneP (only 47)) epsP) (cond v (res (ok b) t) (res bad (b ∷ t))))))
     star true = fine-slash b t
     star false = tt
+
     go : (v : Bool) → within (only 42) b ≡ v → Fine (mapR blockTurn (pick v (seqP (oneP (only 42)) (altP (only 47) (oneP (only 47)) epsP)) (charP InBlock) (b ∷ t)))
     go true e = star (within (only 42) b)
     go false e = fine-char (b ∷ t) (charP InBlock (b ∷ t)) (in-block .means (b ∷ t))
@@ -263,12 +272,13 @@ body-to [] e w l = record { inside = []; same = l .0; bytes = l .1; chars = none
 body-to (x ∷ a) e w l =
     let m = body-to a e (l .1) (l .5) in
     let k = l .3 in
-    record
-      { inside = l .0 ++ m .inside
-      ; same = ap (λ y. y ++ concats a e) (k .0) ∙ ap (λ y. l .0 ++ y) (m .same) ∙ sym (l .2)
-      ; bytes = l .2 ∙ ap (λ y. l .0 ++ y) (m .bytes) ∙ sym (append-assoc (l .0) (m .inside) (42 ∷ 47 ∷ []))
-      ; chars = next (k .1) (m .chars)
-      ; shut = shut-char (k .1) (m .inside) (free-front (starExt (l .0)) (m .inside) (42 ∷ 47 ∷ []) (subst (Free (starExt (l .0))) (m .bytes) (subst (λ y. Free (starExt y) (l .1)) (k .0) (l .4)))) (m .shut) }
+    record {
+      inside = l .0 ++ m .inside;
+      same = ap (λ y. y ++ concats a e) (k .0) ∙ ap (λ y. l .0 ++ y) (m .same) ∙ sym (l .2);
+      bytes = l .2 ∙ ap (λ y. l .0 ++ y) (m .bytes) ∙ sym (append-assoc (l .0) (m .inside) (42 ∷ 47 ∷ []));
+      chars = next (k .1) (m .chars);
+      shut = shut-char (k .1) (m .inside) (free-front (starExt (l .0)) (m .inside) (42 ∷ 47 ∷ []) (subst (Free (starExt (l .0))) (m .bytes) (subst (λ y. Free (starExt y) (l .1)) (k .0) (l .4)))) (m .shut);
+    }
 
 behind-char : {u : List ℕ} → Char Ascii u → (v : List ℕ) → Shut (u ++ v) → Free (starExt u) (v ++ 42 ∷ 47 ∷ [])
 behind-char (one b h) v s = go (eqb b 42) refl
@@ -276,6 +286,7 @@ behind-char (one b h) v s = go (eqb b 42) refl
     more : (v : List ℕ) → Free (only 47) v → Free (only 47) (v ++ 42 ∷ 47 ∷ [])
     more [] f = refl
     more (c ∷ v) f = f
+
     go : (w : Bool) → eqb b 42 ≡ w → Free (cond w (only 47) []) (v ++ 42 ∷ 47 ∷ [])
     go true e = more v (shut-star v (subst (λ y. Shut (y ∷ v)) (eqb-true b 42 e) s))
     go false e = free-none (v ++ 42 ∷ 47 ∷ [])
@@ -292,9 +303,11 @@ behind-char (several {u = u} m) v s = go u (multi-high m)
 body-from : {t : List ℕ} → Many (Char Ascii) t → Shut t → (a : List (List ℕ)) × (concats a (42 ∷ 47 ∷ []) ≡ t ++ 42 ∷ 47 ∷ []) × iterate TurnL starExt a (42 ∷ 47 ∷ []) (t ++ 42 ∷ 47 ∷ [])
 body-from none s = ([], refl, (refl, refl))
 body-from (next {u = u} {v = v} x m) s =
-    let k = body-from m (shut-behind u v s) in
-    ( u ∷ k .0, ap (λ y. u ++ y) (k .1) ∙ sym (append-assoc u v (42 ∷ 47 ∷ []))
-    , (u, v ++ 42 ∷ 47 ∷ [], append-assoc u v (42 ∷ 47 ∷ []), (refl, x), behind-char x v s, k .2))
+    let k = body-from m (shut-behind u v s) in (
+      u ∷ k .0,
+      ap (λ y. u ++ y) (k .1) ∙ sym (append-assoc u v (42 ∷ 47 ∷ [])),
+      (u, v ++ 42 ∷ 47 ∷ [], append-assoc u v (42 ∷ 47 ∷ []), (refl, x), behind-char x v s, k .2),
+    )
 
 behind-stop : (a : List ℕ) → Free (starExt a) (42 ∷ 47 ∷ [])
 behind-stop [] = refl

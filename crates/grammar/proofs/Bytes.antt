@@ -23,9 +23,10 @@ ByteLaws P p first nl E = Laws (Of P) p first (λ _. nl) (λ _. E)
 
 pub is-only : (b c : ℕ) → within (only b) c ≡ true → c ≡ b
 is-only b c h =
-    elim (or-cases (leb b c && leb c b) false h)
-      [ inl e ↦ (let k = and-parts (leb b c) (leb c b) e in let x = leb-true b c (k .0) in let y = leb-true c b (k .1) in omega arith)
-      | inr e ↦ absurd (false≢true e) ]
+    elim (or-cases (leb b c && leb c b) false h) [
+      | inl e ↦ (let k = and-parts (leb b c) (leb c b) e in let x = leb-true b c (k .0) in let y = leb-true c b (k .1) in omega arith)
+      | inr e ↦ absurd (false≢true e)
+    ]
 
 -- the language in other words
 pub say : (P Q : List ℕ → Type 0) (p : Parser (List ℕ)) (first : Class) (nl : Bool) (E : Class) → ByteLaws P p first nl E → ((u : List ℕ) → P u → Q u) → ((u : List ℕ) → Q u → P u) → ByteLaws Q p first nl E
@@ -60,10 +61,10 @@ Cat P Q w = (u : List ℕ) × (v : List ℕ) × (w ≡ u ++ v) × P u × Q v
 pub cat-laws : (P Q : List ℕ → Type 0) (p q : Parser (List ℕ)) (f g : Class) (nl ml : Bool) (E F : Class) → ByteLaws P p f nl E → ByteLaws Q q g ml F → apart g E ≡ true → (v : List ℕ) → Q v → ByteLaws (Cat P Q) (catP p q) (f ++ cond nl g []) (nl && ml) (F ++ cond ml E [])
 cat-laws P Q p q f g nl ml E F h k d v z =
     conv-laws (λ x. x .0 ++ x .1) (seqL (Of P) (Of Q)) (Of (Cat P Q)) (seqP p q) (f ++ cond nl g []) (λ _. nl && ml) (λ _. F ++ cond ml E [])
-      (seq-laws (Of P) p f (λ _. nl) (λ _. E) h (Of Q) q g (λ _. ml) (λ _. F) k nl (λ a e. e) (λ a. d) v v (refl, z))
-      (λ a u l. (ap (λ y. y ++ a .1) (l .3 .0) ∙ ap (λ y. l .0 ++ y) (l .4 .0) ∙ sym (l .2), (l .0, l .1, l .2, l .3 .1, l .4 .1)))
-      (λ t u l. ((l .1 .0, l .1 .1), sym (l .1 .2) ∙ sym (l .0), (l .1 .0, l .1 .1, l .1 .2, (refl, l .1 .3), (refl, l .1 .4))))
-      (λ _. nl && ml) (λ _. F ++ cond ml E []) (λ a e. e) (λ a u t l y. y)
+    (seq-laws (Of P) p f (λ _. nl) (λ _. E) h (Of Q) q g (λ _. ml) (λ _. F) k nl (λ a e. e) (λ a. d) v v (refl, z))
+    (λ a u l. (ap (λ y. y ++ a .1) (l .3 .0) ∙ ap (λ y. l .0 ++ y) (l .4 .0) ∙ sym (l .2), (l .0, l .1, l .2, l .3 .1, l .4 .1)))
+    (λ t u l. ((l .1 .0, l .1 .1), sym (l .1 .2) ∙ sym (l .0), (l .1 .0, l .1 .1, l .1 .2, (refl, l .1 .3), (refl, l .1 .4))))
+    (λ _. nl && ml) (λ _. F ++ cond ml E []) (λ a e. e) (λ a u t l y. y)
 
 -- one or the other
 abbrev pub Or : (List ℕ → Type 0) → (List ℕ → Type 0) → List ℕ → Type 0
@@ -81,12 +82,13 @@ module _ (P Q : List ℕ → Type 0) where
   pub or-laws : (p q : Parser (List ℕ)) (f g : Class) (ml : Bool) (E F : Class) → ByteLaws P p f false E → ByteLaws Q q g ml F → apart g f ≡ true → ByteLaws (Or P Q) (orP f p q) (f ++ g) ml (E ++ (F ++ cond ml f []))
   or-laws p q f g ml E F h k d =
       conv-laws either (altL (Of P) (Of Q)) (Of (Or P Q)) (altP f p q) (f ++ g) _ _
-        (alt-laws (Of P) p f (λ _. false) (λ _. E) h (Of Q) q g (λ _. ml) (λ _. F) k (λ a. refl) d)
-        or-to (λ t u l. or-from t u (l .0) (l .1)) (λ _. ml) (λ _. E ++ (F ++ cond ml f [])) nul ext
+      (alt-laws (Of P) p f (λ _. false) (λ _. E) h (Of Q) q g (λ _. ml) (λ _. F) k (λ a. refl) d)
+      or-to (λ t u l. or-from t u (l .0) (l .1)) (λ _. ml) (λ _. E ++ (F ++ cond ml f [])) nul ext
     where
       nul : (x : List ℕ ⊎ List ℕ) → Rattle.grammar.proofs.Laws.alt-null (Of P) p f (λ _. false) (λ _. E) h (Of Q) q g (λ _. ml) (λ _. F) k x ≡ true → ml ≡ true
       nul (inl a) e = absurd (false≢true e)
       nul (inr b) e = e
+
       ext : (x : List ℕ ⊎ List ℕ) (u t : List ℕ) → altL (Of P) (Of Q) x u → Free (E ++ (F ++ cond ml f [])) t → Free (Rattle.grammar.proofs.Laws.alt-ext (Of P) p f (λ _. false) (λ _. E) h (Of Q) q g (λ _. ml) (λ _. F) k x) t
       ext (inl a) u t l y = free-left E (F ++ cond ml f []) t y
       ext (inr b) u t l y = free-right E (F ++ cond ml f []) t y
@@ -100,6 +102,7 @@ module _ (c : Class) where
       says (ok a) l = (ap (λ y. b ∷ y) (l .0), (e, l .1))
       says bad l = (l .0, b ∷ l .1, (ap (λ y. b ∷ y) (l .2 .0), (e, l .2 .1)))
       says deep l = (l .0, b ∷ l .1, (ap (λ y. b ∷ y) (l .2 .0), (e, l .2 .1)))
+
       ag : (r : List ℕ) → Again (runP c) (m .0) o r → Again (runP c) (b ∷ m .0) (mapO (λ y. b ∷ y) o) r
       ag [] z = tt
       ag (d ∷ r) z = λ w. ap (λ v. cond v (mapR (λ y. b ∷ y) (runP c (m .0 ++ d ∷ w))) (res (ok []) (b ∷ (m .0 ++ d ∷ w)))) e ∙ ap (mapR (λ y. b ∷ y)) (z w)
@@ -118,11 +121,12 @@ module _ (c : Class) where
   run-complete (b ∷ a) t l f = ap (λ v. cond v (mapR (λ y. b ∷ y) (runP c (a ++ t))) (res (ok []) (b ∷ (a ++ t)))) (l .0) ∙ ap (mapR (λ y. b ∷ y)) (run-complete a t (l .1) f)
 
   pub run-laws : ByteLaws (All c) (runP c) c true c
-  run-laws = record
-    { first-ok = λ a b u l. l .1 .0
-    ; null-ok = λ a l. refl
-    ; means = run-means
-    ; complete = λ a u t l f. run-complete u t (l .1) f ∙ ap (λ y. res (ok y) t) (sym (l .0)) }
+  run-laws = record {
+    first-ok = λ a b u l. l .1 .0;
+    null-ok = λ a l. refl;
+    means = run-means;
+    complete = λ a u t l f. run-complete u t (l .1) f ∙ ap (λ y. res (ok y) t) (sym (l .0));
+  }
 
 -- a word
 pub word-laws : (b : ℕ) (w : List ℕ) → within (only b) b ≡ true → ((c : ℕ) → within (only c) c ≡ true) → ByteLaws (λ u. u ≡ b ∷ w) (wordP (b ∷ w)) (only b) false []
@@ -167,7 +171,7 @@ module _ (P : List ℕ → Type 0) (p : Parser (List ℕ)) (f : Class) (h : Byte
   pub many-laws : ByteLaws (Many P) (manyP f p) f true f
   many-laws =
       let k : ByteLaws (Many P) (manyP f p) (f ++ []) true f = conv-laws (λ x. concats (x .0) (x .1)) (iterL TurnL (λ a. unit-ext (inl a))) (Of (Many P)) (iterP (altP f p emptyP)) (f ++ []) (λ _. true) (λ _. f ++ []) loop-laws
-            (λ a u l. many-to (a .0) (a .1) u l)
-            (λ t u l. (let k = many-from (l .1) in ((k .0, []), k .1 ∙ sym (l .0), k .2)))
-            (λ _. true) (λ _. f) (λ a e. refl) (λ a u t l y. subst (λ z. Free z t) (sym (append-nil f)) y) in
+      (λ a u l. many-to (a .0) (a .1) u l)
+      (λ t u l. (let k = many-from (l .1) in ((k .0, []), k .1 ∙ sym (l .0), k .2)))
+      (λ _. true) (λ _. f) (λ a e. refl) (λ a u t l y. subst (λ z. Free z t) (sym (append-nil f)) y) in
       subst (λ z. ByteLaws (Many P) (manyP f p) z true f) (append-nil f) k

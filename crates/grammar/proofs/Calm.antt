@@ -138,12 +138,12 @@ calm-multi =
     let p3 = orP ((225, 236) ∷ []) (threeP ((225, 236) ∷ []) Tail) p4 in
     let p2 = orP (only 224) (threeP (only 224) ((160, 191) ∷ [])) p3 in
     calm-or ((194, 223) ∷ []) twoP p2 (calm-cat (byteP ((194, 223) ∷ [])) tailP (calm-byte ((194, 223) ∷ [])) (calm-byte Tail))
-      (calm-or (only 224) (threeP (only 224) ((160, 191) ∷ [])) p3 (calm-three (only 224) ((160, 191) ∷ []))
-        (calm-or ((225, 236) ∷ []) (threeP ((225, 236) ∷ []) Tail) p4 (calm-three ((225, 236) ∷ []) Tail)
-          (calm-or (only 237) (threeP (only 237) ((128, 159) ∷ [])) p5 (calm-three (only 237) ((128, 159) ∷ []))
-            (calm-or ((238, 239) ∷ []) (threeP ((238, 239) ∷ []) Tail) p6 (calm-three ((238, 239) ∷ []) Tail)
-              (calm-or (only 240) (fourP (only 240) ((144, 191) ∷ [])) p7 (calm-four (only 240) ((144, 191) ∷ []))
-                (calm-or ((241, 243) ∷ []) (fourP ((241, 243) ∷ []) Tail) p8 (calm-four ((241, 243) ∷ []) Tail) (calm-four (only 244) ((128, 143) ∷ []))))))))
+    (calm-or (only 224) (threeP (only 224) ((160, 191) ∷ [])) p3 (calm-three (only 224) ((160, 191) ∷ []))
+    (calm-or ((225, 236) ∷ []) (threeP ((225, 236) ∷ []) Tail) p4 (calm-three ((225, 236) ∷ []) Tail)
+    (calm-or (only 237) (threeP (only 237) ((128, 159) ∷ [])) p5 (calm-three (only 237) ((128, 159) ∷ []))
+    (calm-or ((238, 239) ∷ []) (threeP ((238, 239) ∷ []) Tail) p6 (calm-three ((238, 239) ∷ []) Tail)
+    (calm-or (only 240) (fourP (only 240) ((144, 191) ∷ [])) p7 (calm-four (only 240) ((144, 191) ∷ []))
+    (calm-or ((241, 243) ∷ []) (fourP ((241, 243) ∷ []) Tail) p8 (calm-four ((241, 243) ∷ []) Tail) (calm-four (only 244) ((128, 143) ∷ []))))))))
 
 calm-char : (c : Class) → Calm (charP c)
 calm-char c = calm-or c (byteP c) multiP (calm-byte c) calm-multi
@@ -157,22 +157,22 @@ calm-digits = calm-cat (byteP Digit) (runP Digit) (calm-byte Digit) (calm-run Di
 calm-number : Calm numberP
 calm-number =
     calm-cat minusP (catP intP (catP fracP expP)) (calm-or (only 45) (byteP (only 45)) emptyP (calm-byte (only 45)) calm-empty)
-      (calm-cat intP (catP fracP expP) (calm-or (only 48) (byteP (only 48)) (catP (byteP Digit1-9) (runP Digit)) (calm-byte (only 48)) (calm-cat (byteP Digit1-9) (runP Digit) (calm-byte Digit1-9) (calm-run Digit)))
-        (calm-cat fracP expP (calm-or (only 46) (catP (byteP (only 46)) digitsP) emptyP (calm-cat (byteP (only 46)) digitsP (calm-byte (only 46)) calm-digits) calm-empty)
-          (calm-or Exponent (catP (byteP Exponent) powerP) emptyP (calm-cat (byteP Exponent) powerP (calm-byte Exponent) (calm-or Signs (catP (byteP Signs) digitsP) digitsP (calm-cat (byteP Signs) digitsP (calm-byte Signs) calm-digits) calm-digits)) calm-empty)))
+    (calm-cat intP (catP fracP expP) (calm-or (only 48) (byteP (only 48)) (catP (byteP Digit1-9) (runP Digit)) (calm-byte (only 48)) (calm-cat (byteP Digit1-9) (runP Digit) (calm-byte Digit1-9) (calm-run Digit)))
+    (calm-cat fracP expP (calm-or (only 46) (catP (byteP (only 46)) digitsP) emptyP (calm-cat (byteP (only 46)) digitsP (calm-byte (only 46)) calm-digits) calm-empty)
+    (calm-or Exponent (catP (byteP Exponent) powerP) emptyP (calm-cat (byteP Exponent) powerP (calm-byte Exponent) (calm-or Signs (catP (byteP Signs) digitsP) digitsP (calm-cat (byteP Signs) digitsP (calm-byte Signs) calm-digits) calm-digits)) calm-empty)))
 
 calm-escape : Calm escapeP
 calm-escape =
     calm-cat (byteP (only 92)) (orP (only 117) unicodeP (byteP Escaped)) (calm-byte (only 92))
-      (calm-or (only 117) unicodeP (byteP Escaped)
-        (calm-cat (byteP (only 117)) (catP hexP (catP hexP (catP hexP hexP))) (calm-byte (only 117))
-          (calm-cat hexP (catP hexP (catP hexP hexP)) (calm-byte Hex) (calm-cat hexP (catP hexP hexP) (calm-byte Hex) (calm-cat hexP hexP (calm-byte Hex) (calm-byte Hex)))))
-        (calm-byte Escaped))
+    (calm-or (only 117) unicodeP (byteP Escaped)
+    (calm-cat (byteP (only 117)) (catP hexP (catP hexP (catP hexP hexP))) (calm-byte (only 117))
+    (calm-cat hexP (catP hexP (catP hexP hexP)) (calm-byte Hex) (calm-cat hexP (catP hexP hexP) (calm-byte Hex) (calm-cat hexP hexP (calm-byte Hex) (calm-byte Hex)))))
+    (calm-byte Escaped))
 
 pub calm-string : Calm stringP
 calm-string =
     calm-cat (byteP (only 34)) (catP (manyP StringFirst stringCharP) (byteP (only 34))) (calm-byte (only 34))
-      (calm-cat (manyP StringFirst stringCharP) (byteP (only 34)) (calm-many StringChar StringFirst stringCharP strchar-laws (calm-or (only 92) escapeP (charP Plain) calm-escape (calm-char Plain))) (calm-byte (only 34)))
+    (calm-cat (manyP StringFirst stringCharP) (byteP (only 34)) (calm-many StringChar StringFirst stringCharP strchar-laws (calm-or (only 92) escapeP (charP Plain) calm-escape (calm-char Plain))) (calm-byte (only 34)))
 
 calm-block : Calm blockP
 calm-block = calm-map (λ x. concats (x .0) (x .1)) (iterP blockTurnP) (calm-iter blockTurnP
@@ -197,8 +197,8 @@ calm-comment last =
     let star = seqP (oneP (only 42)) blockP in
     let line = seqP (oneP (only 47)) (seqP (charsP InLine) (lineEndP last)) in
     calm-map commentOf (seqP (oneP (only 47)) (altP (only 42) star line)) (calm-seq (oneP (only 47)) (altP (only 42) star line) (calm-one (only 47))
-      (calm-alt (only 42) star line (calm-seq (oneP (only 42)) blockP (calm-one (only 42)) calm-block)
-        (calm-seq (oneP (only 47)) (seqP (charsP InLine) (lineEndP last)) (calm-one (only 47)) (calm-seq (charsP InLine) (lineEndP last) calm-chars (calm-end last)))))
+    (calm-alt (only 42) star line (calm-seq (oneP (only 42)) blockP (calm-one (only 42)) calm-block)
+    (calm-seq (oneP (only 47)) (seqP (charsP InLine) (lineEndP last)) (calm-one (only 47)) (calm-seq (charsP InLine) (lineEndP last) calm-chars (calm-end last)))))
 
 calm-space : Calm spaceP
 calm-space = calm-map (λ t. only-leaf (whitespace t)) (catP (byteP Blank) (runP Blank)) (calm-cat (byteP Blank) (runP Blank) (calm-byte Blank) (calm-run Blank))
@@ -223,6 +223,6 @@ calm-scalar =
     let p3 = orP (only 116) trueP p4 in
     let p2 = orP (only 110) nullP p3 in
     calm-or (only 34) stringLeafP p2 (calm-map (λ t. only-leaf (string t)) stringP calm-string)
-      (calm-or (only 110) nullP p3 (calm-literal null (110 ∷ 117 ∷ 108 ∷ 108 ∷ []))
-        (calm-or (only 116) trueP p4 (calm-literal (boolean true) (116 ∷ 114 ∷ 117 ∷ 101 ∷ []))
-          (calm-or (only 102) falseP numberLeafP (calm-literal (boolean false) (102 ∷ 97 ∷ 108 ∷ 115 ∷ 101 ∷ [])) (calm-map (λ t. only-leaf (number t)) numberP calm-number))))
+    (calm-or (only 110) nullP p3 (calm-literal null (110 ∷ 117 ∷ 108 ∷ 108 ∷ []))
+    (calm-or (only 116) trueP p4 (calm-literal (boolean true) (116 ∷ 114 ∷ 117 ∷ 101 ∷ []))
+    (calm-or (only 102) falseP numberLeafP (calm-literal (boolean false) (102 ∷ 97 ∷ 108 ∷ 115 ∷ 101 ∷ [])) (calm-map (λ t. only-leaf (number t)) numberP calm-number))))

@@ -81,8 +81,8 @@ three-laws a b x y h k d e = cat-laws (Is a) (Two b Tail) (byteP a) (catP (byteP
 four-laws : (a b : Class) (x y : ℕ) → within a x ≡ true → within b y ≡ true → apart (b ++ []) [] ≡ true → ByteLaws (Four a b Tail Tail) (fourP a b) (a ++ []) false []
 four-laws a b x y h k e =
     cat-laws (Is a) (Three b Tail Tail) (byteP a) (catP (byteP b) (catP tailP tailP)) a (b ++ []) false false [] [] (byte-laws a x h)
-      (cat-laws (Is b) (Two Tail Tail) (byteP b) (catP tailP tailP) b Tail false false [] [] (byte-laws b y k) (two-laws Tail Tail 128 128 refl refl refl) refl (128 ∷ 128 ∷ []) (mk2 Tail Tail 128 128 refl refl))
-      e (y ∷ 128 ∷ 128 ∷ []) (mk3 b Tail Tail y 128 128 k refl refl)
+    (cat-laws (Is b) (Two Tail Tail) (byteP b) (catP tailP tailP) b Tail false false [] [] (byte-laws b y k) (two-laws Tail Tail 128 128 refl refl refl) refl (128 ∷ 128 ∷ []) (mk2 Tail Tail 128 128 refl refl))
+    e (y ∷ 128 ∷ 128 ∷ []) (mk3 b Tail Tail y 128 128 k refl refl)
 
 -- RFC 3629, section 4, case by case
 abbrev C2 : Class
@@ -353,10 +353,10 @@ NumberMore = (ExpMore ++ (Digit ++ only 46)) ++ Digit
 pub number-laws : ByteLaws Number numberP NumberFirst false NumberMore
 number-laws = say Number2 Number numberP NumberFirst false NumberMore
     (cat-laws Minus (Cat Int (Cat Frac Exp)) minusP (catP intP (catP fracP expP)) (only 45) IntFirst true false (only 45) NumberMore minus-laws
-      (cat-laws Int (Cat Frac Exp) intP (catP fracP expP) IntFirst (only 46 ++ Exponent) false true Digit (ExpMore ++ (Digit ++ only 46)) int-laws
-        (cat-laws Frac Exp fracP expP (only 46) Exponent true true (Digit ++ only 46) ExpMore frac-laws exp-laws refl [] plain)
-        refl [] ([], [], refl, whole, plain))
-      refl (48 ∷ []) (48 ∷ [], [], refl, zero, ([], [], refl, whole, plain)))
+    (cat-laws Int (Cat Frac Exp) intP (catP fracP expP) IntFirst (only 46 ++ Exponent) false true Digit (ExpMore ++ (Digit ++ only 46)) int-laws
+    (cat-laws Frac Exp fracP expP (only 46) Exponent true true (Digit ++ only 46) ExpMore frac-laws exp-laws refl [] plain)
+    refl [] ([], [], refl, whole, plain))
+    refl (48 ∷ []) (48 ∷ [], [], refl, zero, ([], [], refl, whole, plain)))
     number-to (λ u l. number-from l)
 
 -- strings
@@ -369,14 +369,14 @@ Escape2 = Cat (Is (only 92)) (Or (Cat (Is (only 117)) Hex4) (Is Escaped))
 hex4-laws : ByteLaws Hex4 (catP hexP (catP hexP (catP hexP hexP))) Hex false []
 hex4-laws =
     cat-laws (Is Hex) (Three Hex Hex Hex) hexP (catP hexP (catP hexP hexP)) Hex Hex false false [] [] (byte-laws Hex 48 refl)
-      (cat-laws (Is Hex) (Two Hex Hex) hexP (catP hexP hexP) Hex Hex false false [] [] (byte-laws Hex 48 refl) (two-laws Hex Hex 48 48 refl refl refl) refl (48 ∷ 48 ∷ []) (mk2 Hex Hex 48 48 refl refl))
-      refl (48 ∷ 48 ∷ 48 ∷ []) (mk3 Hex Hex Hex 48 48 48 refl refl refl)
+    (cat-laws (Is Hex) (Two Hex Hex) hexP (catP hexP hexP) Hex Hex false false [] [] (byte-laws Hex 48 refl) (two-laws Hex Hex 48 48 refl refl refl) refl (48 ∷ 48 ∷ []) (mk2 Hex Hex 48 48 refl refl))
+    refl (48 ∷ 48 ∷ 48 ∷ []) (mk3 Hex Hex Hex 48 48 48 refl refl refl)
 
 escape-laws : ByteLaws Escape2 escapeP (only 92) false []
 escape-laws = cat-laws (Is (only 92)) (Or (Cat (Is (only 117)) Hex4) (Is Escaped)) (byteP (only 92)) (orP (only 117) unicodeP (byteP Escaped)) (only 92) (only 117 ++ Escaped) false false [] [] (byte-laws (only 92) 92 refl)
     (or-laws (Cat (Is (only 117)) Hex4) (Is Escaped) unicodeP (byteP Escaped) (only 117) Escaped false [] []
-      (cat-laws (Is (only 117)) Hex4 (byteP (only 117)) (catP hexP (catP hexP (catP hexP hexP))) (only 117) Hex false false [] [] (byte-laws (only 117) 117 refl) hex4-laws refl (48 ∷ 48 ∷ 48 ∷ 48 ∷ []) (mk4 Hex Hex Hex Hex 48 48 48 48 refl refl refl refl))
-      (byte-laws Escaped 34 refl) refl)
+    (cat-laws (Is (only 117)) Hex4 (byteP (only 117)) (catP hexP (catP hexP (catP hexP hexP))) (only 117) Hex false false [] [] (byte-laws (only 117) 117 refl) hex4-laws refl (48 ∷ 48 ∷ 48 ∷ 48 ∷ []) (mk4 Hex Hex Hex Hex 48 48 48 48 refl refl refl refl))
+    (byte-laws Escaped 34 refl) refl)
     refl (34 ∷ []) (inr (mk1 Escaped 34 refl))
 
 strchar-to : (u : List ℕ) → Or Escape2 (Char Plain) u → StringChar u
@@ -404,10 +404,11 @@ Quoted2 = Cat (Is (only 34)) (Cat (Many StringChar) (Is (only 34)))
 
 quoted-to : (u : List ℕ) → Quoted2 u → Quoted u
 quoted-to u l =
-    let m = l .4 in
-    ( m .0
-    , l .2 ∙ ap (λ y. y ++ l .1) (l .3 .1 ∙ ap (λ y. y ∷ []) (is-only 34 (l .3 .0) (l .3 .2))) ∙ ap (λ y. 34 ∷ y) (m .2 ∙ ap (λ y. m .0 ++ y) (m .4 .1 ∙ ap (λ y. y ∷ []) (is-only 34 (m .4 .0) (m .4 .2))))
-    , m .3)
+    let m = l .4 in (
+      m .0,
+      l .2 ∙ ap (λ y. y ++ l .1) (l .3 .1 ∙ ap (λ y. y ∷ []) (is-only 34 (l .3 .0) (l .3 .2))) ∙ ap (λ y. 34 ∷ y) (m .2 ∙ ap (λ y. m .0 ++ y) (m .4 .1 ∙ ap (λ y. y ∷ []) (is-only 34 (m .4 .0) (m .4 .2)))),
+      m .3,
+    )
 
 quoted-from : (u : List ℕ) → Quoted u → Quoted2 u
 quoted-from u l = (34 ∷ [], l .0 ++ 34 ∷ [], l .1, (34, refl, refl), (l .0, 34 ∷ [], refl, l .2, (34, refl, refl)))
@@ -415,6 +416,6 @@ quoted-from u l = (34 ∷ [], l .0 ++ 34 ∷ [], l .1, (34, refl, refl), (l .0, 
 pub string-laws : ByteLaws Quoted stringP (only 34) false []
 string-laws = say Quoted2 Quoted stringP (only 34) false []
     (cat-laws (Is (only 34)) (Cat (Many StringChar) (Is (only 34))) (byteP (only 34)) (catP (manyP StringFirst stringCharP) (byteP (only 34))) (only 34) (StringFirst ++ only 34) false false [] [] (byte-laws (only 34) 34 refl)
-      (cat-laws (Many StringChar) (Is (only 34)) (manyP StringFirst stringCharP) (byteP (only 34)) StringFirst (only 34) true false StringFirst [] (many-laws StringChar stringCharP StringFirst strchar-laws) (byte-laws (only 34) 34 refl) refl (34 ∷ []) (34, refl, refl))
-      refl (34 ∷ []) ([], 34 ∷ [], refl, none, (34, refl, refl)))
+    (cat-laws (Many StringChar) (Is (only 34)) (manyP StringFirst stringCharP) (byteP (only 34)) StringFirst (only 34) true false StringFirst [] (many-laws StringChar stringCharP StringFirst strchar-laws) (byte-laws (only 34) 34 refl) refl (34 ∷ []) (34, refl, refl))
+    refl (34 ∷ []) ([], 34 ∷ [], refl, none, (34, refl, refl)))
     quoted-to quoted-from

@@ -163,10 +163,10 @@ module _ (n : ℕ) (h : Under (valueP n) (valueP (suc n))) where
       let cw : Shrinks (thenP (tokenP colon) (thenP (triviaP false) w)) = shrinks-then (tokenP colon) (thenP (triviaP false) w) (shrinks-token colon) gw in
       let tw : Shrinks (thenP (triviaP false) (thenP (tokenP colon) (thenP (triviaP false) w))) = shrinks-then (triviaP false) (thenP (tokenP colon) (thenP (triviaP false) w)) (shrinks-trivia false) cw in
       under-map (λ c. box property c end) (thenP nameP (thenP (triviaP false) (thenP (tokenP colon) (thenP (triviaP false) v)))) (thenP nameP (thenP (triviaP false) (thenP (tokenP colon) (thenP (triviaP false) w))))
-        (under-then nameP nameP (thenP (triviaP false) (thenP (tokenP colon) (thenP (triviaP false) v))) (thenP (triviaP false) (thenP (tokenP colon) (thenP (triviaP false) w))) (same nameP (calm-map (λ t. only-leaf (name t)) stringP calm-string))
-          (under-then (triviaP false) (triviaP false) (thenP (tokenP colon) (thenP (triviaP false) v)) (thenP (tokenP colon) (thenP (triviaP false) w)) (same (triviaP false) (calm-trivia false))
-            (under-then (tokenP colon) (tokenP colon) (thenP (triviaP false) v) (thenP (triviaP false) w) (same (tokenP colon) (calm-token colon))
-              (under-then (triviaP false) (triviaP false) v w (same (triviaP false) (calm-trivia false)) h (shrinks-value (suc n))) gw) cw) tw)
+      (under-then nameP nameP (thenP (triviaP false) (thenP (tokenP colon) (thenP (triviaP false) v))) (thenP (triviaP false) (thenP (tokenP colon) (thenP (triviaP false) w))) (same nameP (calm-map (λ t. only-leaf (name t)) stringP calm-string))
+      (under-then (triviaP false) (triviaP false) (thenP (tokenP colon) (thenP (triviaP false) v)) (thenP (tokenP colon) (thenP (triviaP false) w)) (same (triviaP false) (calm-trivia false))
+      (under-then (tokenP colon) (tokenP colon) (thenP (triviaP false) v) (thenP (triviaP false) w) (same (tokenP colon) (calm-token colon))
+      (under-then (triviaP false) (triviaP false) v w (same (triviaP false) (calm-trivia false)) h (shrinks-value (suc n))) gw) cw) tw)
 
   under-item : (f : Frame) → Under (itemP f (valueP n)) (itemP f (valueP (suc n)))
   under-item brackets = h
@@ -176,9 +176,9 @@ module _ (n : ℕ) (h : Under (valueP n) (valueP (suc n))) where
   shrinks-item brackets = shrinks-after (valueP (suc n)) (afterP (triviaP false) (endP brackets)) (shrinks-value (suc n)) (shrinks-after (triviaP false) (endP brackets) (shrinks-trivia false) (shrinks-end brackets))
   shrinks-item braces = shrinks-after (memberP (valueP (suc n))) (afterP (triviaP false) (endP braces))
       (shrinks-map (λ c. box property c end) (thenP nameP (thenP (triviaP false) (thenP (tokenP colon) (thenP (triviaP false) (valueP (suc n))))))
-        (shrinks-then nameP (thenP (triviaP false) (thenP (tokenP colon) (thenP (triviaP false) (valueP (suc n))))) name-shrinks
-          (shrinks-then (triviaP false) (thenP (tokenP colon) (thenP (triviaP false) (valueP (suc n)))) (shrinks-trivia false)
-            (shrinks-then (tokenP colon) (thenP (triviaP false) (valueP (suc n))) (shrinks-token colon) (shrinks-then (triviaP false) (valueP (suc n)) (shrinks-trivia false) (shrinks-value (suc n)))))))
+      (shrinks-then nameP (thenP (triviaP false) (thenP (tokenP colon) (thenP (triviaP false) (valueP (suc n))))) name-shrinks
+      (shrinks-then (triviaP false) (thenP (tokenP colon) (thenP (triviaP false) (valueP (suc n)))) (shrinks-trivia false)
+      (shrinks-then (tokenP colon) (thenP (triviaP false) (valueP (suc n))) (shrinks-token colon) (shrinks-then (triviaP false) (valueP (suc n)) (shrinks-trivia false) (shrinks-value (suc n)))))))
       (shrinks-after (triviaP false) (endP braces) (shrinks-trivia false) (shrinks-end braces))
     where
       name-shrinks : Shrinks nameP
@@ -190,18 +190,18 @@ module _ (n : ℕ) (h : Under (valueP n) (valueP (suc n))) where
       let from : Parser (Pieces ⊎ Pieces) = afterP (itemP f (valueP n)) (afterP (triviaP false) (endP f)) in
       let to : Parser (Pieces ⊎ Pieces) = afterP (itemP f (valueP (suc n))) (afterP (triviaP false) (endP f)) in
       under-after (triviaP false) (triviaP false) (orP (only (closer f)) close from) (orP (only (closer f)) close to) (same (triviaP false) (calm-trivia false))
-        (under-or (only (closer f)) close close from to (same close (calm-map inr (tokenP (closeToken f)) (calm-token (closeToken f))))
-          (under-after (itemP f (valueP n)) (itemP f (valueP (suc n))) (afterP (triviaP false) (endP f)) (afterP (triviaP false) (endP f)) (under-item f)
-            (under-after (triviaP false) (triviaP false) (endP f) (endP f) (same (triviaP false) (calm-trivia false)) (same (endP f) (calm-end f)) (shrinks-end f))
-            (shrinks-after (triviaP false) (endP f) (shrinks-trivia false) (shrinks-end f))))
-        (shrinks-map either (altP (only (closer f)) close to) (shrinks-alt (only (closer f)) close to (shrinks-map inr (tokenP (closeToken f)) (shrinks-token (closeToken f))) (shrinks-item f)))
+      (under-or (only (closer f)) close close from to (same close (calm-map inr (tokenP (closeToken f)) (calm-token (closeToken f))))
+      (under-after (itemP f (valueP n)) (itemP f (valueP (suc n))) (afterP (triviaP false) (endP f)) (afterP (triviaP false) (endP f)) (under-item f)
+      (under-after (triviaP false) (triviaP false) (endP f) (endP f) (same (triviaP false) (calm-trivia false)) (same (endP f) (calm-end f)) (shrinks-end f))
+      (shrinks-after (triviaP false) (endP f) (shrinks-trivia false) (shrinks-end f))))
+      (shrinks-map either (altP (only (closer f)) close to) (shrinks-alt (only (closer f)) close to (shrinks-map inr (tokenP (closeToken f)) (shrinks-token (closeToken f))) (shrinks-item f)))
 
   under-container : (f : Frame) → Under (containerP f (valueP n)) (containerP f (valueP (suc n)))
   under-container f =
       under-map (λ c. box (boxOf f) c end) (thenP (tokenP (openToken f)) (itemsP f (valueP n))) (thenP (tokenP (openToken f)) (itemsP f (valueP (suc n))))
-        (under-then (tokenP (openToken f)) (tokenP (openToken f)) (itemsP f (valueP n)) (itemsP f (valueP (suc n))) (same (tokenP (openToken f)) (calm-token (openToken f)))
-          (under-map (λ x. joins (x .0) (x .1)) (iterP (turnP f (valueP n))) (iterP (turnP f (valueP (suc n)))) (under-iter (turnP f (valueP n)) (turnP f (valueP (suc n))) (under-turn f) (shrinks-turn f (suc n)) (progress-turn f n)))
-          (shrinks-items f (suc n)))
+      (under-then (tokenP (openToken f)) (tokenP (openToken f)) (itemsP f (valueP n)) (itemsP f (valueP (suc n))) (same (tokenP (openToken f)) (calm-token (openToken f)))
+      (under-map (λ x. joins (x .0) (x .1)) (iterP (turnP f (valueP n))) (iterP (turnP f (valueP (suc n)))) (under-iter (turnP f (valueP n)) (turnP f (valueP (suc n))) (under-turn f) (shrinks-turn f (suc n)) (progress-turn f n)))
+      (shrinks-items f (suc n)))
 
   under-nested : Under (nestedP (suc n)) (nestedP (suc (suc n)))
   under-nested s = under-or (only 91) (containerP brackets (valueP n)) (containerP brackets (valueP (suc n))) (containerP braces (valueP n)) (containerP braces (valueP (suc n))) (under-container brackets) (under-container braces) s
@@ -216,9 +216,9 @@ below-suc a b h = omega arith
 open-one : (f : Frame) (n b : ℕ) (t : List ℕ) → within (only (tokenByte (openToken f))) b ≡ true → length (rest (containerP f (valueP n) (b ∷ t))) < length (b ∷ t)
 open-one f n b t e =
     map-lt (λ c. box (boxOf f) c end) (thenP (tokenP (openToken f)) (itemsP f (valueP n)) (b ∷ t)) (length (b ∷ t))
-      (map-lt (λ x. join (x .0) (x .1)) (seqP (tokenP (openToken f)) (itemsP f (valueP n)) (b ∷ t)) (length (b ∷ t))
-        (subst (λ y. length (rest (bind (itemsP f (valueP n)) y)) < length (b ∷ t)) (sym (token-at (openToken f) b t e))
-          (map-lt (λ y. (only-leaf (token (openToken f)), y)) (itemsP f (valueP n) t) (length (b ∷ t)) (below-suc (length (rest (itemsP f (valueP n) t))) (length t) (shrinks-items f n t)))))
+    (map-lt (λ x. join (x .0) (x .1)) (seqP (tokenP (openToken f)) (itemsP f (valueP n)) (b ∷ t)) (length (b ∷ t))
+    (subst (λ y. length (rest (bind (itemsP f (valueP n)) y)) < length (b ∷ t)) (sym (token-at (openToken f) b t e))
+    (map-lt (λ y. (only-leaf (token (openToken f)), y)) (itemsP f (valueP n) t) (length (b ∷ t)) (below-suc (length (rest (itemsP f (valueP n) t))) (length t) (shrinks-items f n t)))))
 
 open-more : (b : ℕ) (t : List ℕ) → within Opening b ≡ true → length (rest (nestedP 1 (b ∷ t))) < length (b ∷ t)
 open-more b t e = go (within (only 91) b) refl
@@ -226,6 +226,7 @@ open-more b t e = go (within (only 91) b) refl
     brace : within (only 91) b ≡ false → within (only 123) b ≡ true
     brace z = elim (Rattle.std.proofs.shelf.Tests.or-cases (within (only 91) b) (within (only 123) b) (sym (Rattle.grammar.proofs.Laws.within-app (only 91) (only 123) b) ∙ e))
         [ inl y ↦ absurd (false≢true (sym z ∙ y)) | inr y ↦ y ]
+
     go : (v : Bool) → within (only 91) b ≡ v → length (rest (mapR either (pick v (containerP brackets (valueP 0)) (containerP braces (valueP 0)) (b ∷ t)))) < length (b ∷ t)
     go true z = map-lt either (mapR inl (containerP brackets (valueP 0) (b ∷ t))) (length (b ∷ t)) (map-lt inl (containerP brackets (valueP 0) (b ∷ t)) (length (b ∷ t)) (open-one brackets 0 b t z))
     go false z = map-lt either (mapR inr (containerP braces (valueP 0) (b ∷ t))) (length (b ∷ t)) (map-lt inr (containerP braces (valueP 0) (b ∷ t)) (length (b ∷ t)) (open-one braces 0 b t (brace z)))
@@ -244,8 +245,8 @@ text-up n =
     let p = thenP (valueP n) (triviaP true) in
     let q = thenP (valueP (suc n)) (triviaP true) in
     under-then (triviaP true) (triviaP true) (orP ValueFirst p nothingP) (orP ValueFirst q nothingP) (same (triviaP true) (calm-trivia true))
-      (under-or ValueFirst p q nothingP nothingP (under-then (valueP n) (valueP (suc n)) (triviaP true) (triviaP true) (value-up n) (same (triviaP true) (calm-trivia true)) (shrinks-trivia true)) (same nothingP calm-nothing))
-      (shrinks-map either (altP ValueFirst q nothingP) (shrinks-alt ValueFirst q nothingP (shrinks-then (valueP (suc n)) (triviaP true) (shrinks-value (suc n)) (shrinks-trivia true)) (λ s. omega arith)))
+    (under-or ValueFirst p q nothingP nothingP (under-then (valueP n) (valueP (suc n)) (triviaP true) (triviaP true) (value-up n) (same (triviaP true) (calm-trivia true)) (shrinks-trivia true)) (same nothingP calm-nothing))
+    (shrinks-map either (altP ValueFirst q nothingP) (shrinks-alt ValueFirst q nothingP (shrinks-then (valueP (suc n)) (triviaP true) (shrinks-value (suc n)) (shrinks-trivia true)) (λ s. omega arith)))
 
 below-trans : {A : Type 0} (x y z : Res A) → Below x y → Below y z → Below x z
 below-trans (res (ok a) t) y z e f = subst (λ v. Below v z) e f
@@ -258,6 +259,7 @@ below-trans (res deep t) (res deep r) z e f = omega arith
 pub under-far : {A : Type 0} (p : ℕ → Parser A) → ((n : ℕ) → Under (p n) (p (suc n))) → (n m : ℕ) → n < m → Under (p n) (p m)
 under-far p h n zero lt s = absurd (omega arith)
 under-far p h n (suc m) lt s =
-    elim (cases-lt n m)
-      [ inl l ↦ below-trans (p n s) (p m s) (p (suc m) s) (under-far p h n m l s) (h m s)
-      | inr ge ↦ (let e : n ≡ m = omega arith in subst (λ k. Below (p n s) (p (suc k) s)) e (h n s)) ]
+    elim (cases-lt n m) [
+      | inl l ↦ below-trans (p n s) (p m s) (p (suc m) s) (under-far p h n m l s) (h m s)
+      | inr ge ↦ (let e : n ≡ m = omega arith in subst (λ k. Below (p n s) (p (suc k) s)) e (h n s))
+    ]

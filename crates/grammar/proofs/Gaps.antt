@@ -73,11 +73,12 @@ unit-laws last = choice-laws (PieceL last) HaltL (pieceP last) (mapP inr nothing
 fine-char-run : (s : List ℕ) → Fine (λ _. InLine ++ MultiFirst) (charsP InLine s)
 fine-char-run s =
     fine-map (λ x. concats (x .0) (x .1)) (λ _. InLine ++ MultiFirst) (iterP (altP (InLine ++ MultiFirst) (charP InLine) emptyP) s)
-      (fine-loop (altP (InLine ++ MultiFirst) (charP InLine) emptyP) (λ _. InLine ++ MultiFirst) turn (suc (length s)) s)
+    (fine-loop (altP (InLine ++ MultiFirst) (charP InLine) emptyP) (λ _. InLine ++ MultiFirst) turn (suc (length s)) s)
   where
     free : (s : List ℕ) → starts (InLine ++ MultiFirst) s ≡ false → Free (InLine ++ MultiFirst) s
     free [] e = tt
     free (b ∷ s) e = e
+
     turn : (s : List ℕ) → Fine (λ y. elim y [ inl a ↦ [] | inr c ↦ InLine ++ MultiFirst ]) (altP (InLine ++ MultiFirst) (charP InLine) emptyP s)
     turn s = fine-pick (starts (InLine ++ MultiFirst) s) (charP InLine) emptyP s (λ y. elim y [ inl a ↦ [] | inr c ↦ InLine ++ MultiFirst ]) (λ e. fine-any (charP InLine s)) (λ e. free s e)
 
@@ -97,19 +98,20 @@ fine-end false s f = fine-map inl endBehind (newlineP s) (fine-newline s)
 fine-comment : (last : Bool) (s : List ℕ) → Fine unitExt (commentP last s)
 fine-comment last s =
     fine-map commentOf unitExt (seqP (oneP (only 47)) (altP (only 42) starP (lineP last)) s)
-      (fine-bind (altP (only 42) starP (lineP last)) (λ x. unitExt (commentOf x)) (oneP (only 47) s) rest)
+    (fine-bind (altP (only 42) starP (lineP last)) (λ x. unitExt (commentOf x)) (oneP (only 47) s) rest)
   where
     same : (a b : ℕ) (t : List ℕ) (x : Res (Pieces ⊎ Unit {0})) → Fine endBehind x → Fine (λ y. unitExt (commentOf (a, inr (b, (t, y))))) x
     same a b t (res (ok (inl n)) r) f = f
     same a b t (res (ok (inr e)) r) f = f
     same a b t (res bad r) f = tt
     same a b t (res deep r) f = tt
+
     rest : (a : ℕ) (t : List ℕ) → Fine (λ y. unitExt (commentOf (a, y))) (altP (only 42) starP (lineP last) t)
     rest a t = fine-pick (starts (only 42) t) starP (lineP last) t (λ y. unitExt (commentOf (a, y)))
         (λ e. star (starP t))
         (λ e. fine-bind (seqP (charsP InLine) (lineEndP last)) (λ y. unitExt (commentOf (a, inr y))) (oneP (only 47) t)
-          (λ b r. fine-next (lineEndP last) (λ _. InLine ++ MultiFirst) (λ y. unitExt (commentOf (a, inr (b, y)))) (charsP InLine r) (fine-char-run r)
-            (λ v z f. same a b v (lineEndP last z) (fine-end last z f))))
+        (λ b r. fine-next (lineEndP last) (λ _. InLine ++ MultiFirst) (λ y. unitExt (commentOf (a, inr (b, y)))) (charsP InLine r) (fine-char-run r)
+        (λ v z f. same a b v (lineEndP last z) (fine-end last z f))))
       where
         star : (x : Res (ℕ × List ℕ)) → Fine (λ y. unitExt (commentOf (a, inl y))) x
         star (res (ok (b, v)) r) = free-none r
@@ -255,6 +257,7 @@ fine-run last s = fine-loop (unitP last) stopWide turn (suc (length s)) s
     only-stop (res (ok (inr a)) t) f = f
     only-stop (res bad t) f = tt
     only-stop (res deep t) f = tt
+
     turn : (s : List ℕ) → Fine (λ y. elim y [ inl a ↦ [] | inr c ↦ stopWide c ]) (unitP last s)
     turn s = only-stop (unitP last s) (fine-unit last s)
 

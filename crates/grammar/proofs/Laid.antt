@@ -77,11 +77,12 @@ blanks-all u l = subst (All Blank) (sym (l .2 ∙ ap (λ y. y ++ l .1) (l .3 .1)
 
 module _ (last : Bool) (r : Pieces) (w : List ℕ) (m : Laid last r w) where
   space-on : (v : List ℕ) → Blanks v → Laid last (leaf (whitespace v) r) (v ++ w)
-  space-on v h = record
-    { gap = m .gap
-    ; trivia = blanks-on last (m .gap) v w (blanks-all v h) (m .trivia)
-    ; laid = λ z b. m .laid z b
-    ; printed = ap (λ y. v ++ y) (m .printed) }
+  space-on v h = record {
+    gap = m .gap;
+    trivia = blanks-on last (m .gap) v w (blanks-all v h) (m .trivia);
+    laid = λ z b. m .laid z b;
+    printed = ap (λ y. v ++ y) (m .printed);
+  }
 
   break-trivia : (k : Break) → Trivia last (broken (m .gap)) (breakBytes k ++ w)
   break-trivia line-feed = newline 10 refl (m .trivia)
@@ -89,18 +90,20 @@ module _ (last : Bool) (r : Pieces) (w : List ℕ) (m : Laid last r w) where
   break-trivia both = subst (λ y. Trivia last y (13 ∷ 10 ∷ w)) (broken-twice (m .gap)) (newline 13 refl (newline 10 refl (m .trivia)))
 
   newline-on : (k : Break) → Laid last (leaf (break k) r) (breakBytes k ++ w)
-  newline-on k = record
-    { gap = broken (m .gap)
-    ; trivia = break-trivia k
-    ; laid = λ z b. m .laid z true ∙ ap (λ y. after y (lay z)) (sym (flag-broken b (m .gap)))
-    ; printed = ap (λ y. breakBytes k ++ y) (m .printed) }
+  newline-on k = record {
+    gap = broken (m .gap);
+    trivia = break-trivia k;
+    laid = λ z b. m .laid z true ∙ ap (λ y. after y (lay z)) (sym (flag-broken b (m .gap)));
+    printed = ap (λ y. breakBytes k ++ y) (m .printed);
+  }
 
   block-on : (t : List ℕ) → BlockComment t → Laid last (leaf (comment (Block t)) r) (t ++ w)
-  block-on t h = record
-    { gap = remark false (Block t) (m .gap)
-    ; trivia = block-comment h (m .trivia)
-    ; laid = λ z b. ap (note b (Block t)) (m .laid z false) ∙ sym (after-remark b (Block t) (m .gap) (lay z))
-    ; printed = ap (λ y. t ++ y) (m .printed) }
+  block-on t h = record {
+    gap = remark false (Block t) (m .gap);
+    trivia = block-comment h (m .trivia);
+    laid = λ z b. ap (note b (Block t)) (m .laid z false) ∙ sym (after-remark b (Block t) (m .gap) (lay z));
+    printed = ap (λ y. t ++ y) (m .printed);
+  }
 
   line-trivia : (t : List ℕ) (k : Break) → LineComment t → Trivia last (remark false (Line t) (broken (m .gap))) (t ++ (breakBytes k ++ w))
   line-trivia t line-feed h = line-comment 10 h refl (m .trivia)
@@ -108,18 +111,20 @@ module _ (last : Bool) (r : Pieces) (w : List ℕ) (m : Laid last r w) where
   line-trivia t both h = subst (λ y. Trivia last (remark false (Line t) y) (t ++ 13 ∷ 10 ∷ w)) (broken-twice (m .gap)) (line-comment 13 h refl (newline 10 refl (m .trivia)))
 
   line-on : (t : List ℕ) (k : Break) → LineComment t → Laid last (leaf (comment (Line t)) (leaf (break k) r)) (t ++ (breakBytes k ++ w))
-  line-on t k h = record
-    { gap = remark false (Line t) (broken (m .gap))
-    ; trivia = line-trivia t k h
-    ; laid = λ z b. ap (note b (Line t)) (m .laid z true) ∙ sym (after-remark b (Line t) (broken (m .gap)) (lay z))
-    ; printed = ap (λ y. t ++ (breakBytes k ++ y)) (m .printed) }
+  line-on t k h = record {
+    gap = remark false (Line t) (broken (m .gap));
+    trivia = line-trivia t k h;
+    laid = λ z b. ap (note b (Line t)) (m .laid z true) ∙ sym (after-remark b (Line t) (broken (m .gap)) (lay z));
+    printed = ap (λ y. t ++ (breakBytes k ++ y)) (m .printed);
+  }
 
 stop-open : (last : Bool) (u : List ℕ) → last ≡ true → LineComment u → Laid last (only-leaf (comment (Line u))) u
-stop-open last u i h = record
-  { gap = remark false (Line u) (quiet false)
-  ; trivia = open-line i h
-  ; laid = λ z b. sym (after-remark b (Line u) (quiet false) (lay z))
-  ; printed = append-nil u }
+stop-open last u i h = record {
+  gap = remark false (Line u) (quiet false);
+  trivia = open-line i h;
+  laid = λ z b. sym (after-remark b (Line u) (quiet false) (lay z));
+  printed = append-nil u;
+}
 
 stop-end : (last : Bool) → Laid last end []
 stop-end last = record { gap = quiet false; trivia = empty; laid = λ z b. sym (after-quiet b (lay z)); printed = refl }
@@ -128,7 +133,7 @@ closed-to : (last : Bool) (x r : Pieces) {v : List ℕ} (w : List ℕ) → Close
 closed-to last x r {v = v} w (a-block e h) m = subst (λ y. Laid last (join y r) (v ++ w)) (sym e) (block-on last r w m v h)
 closed-to last x r {v = v} w (a-line t z n e f h l) m =
     subst (λ y. Laid last (join y r) (v ++ w)) (sym (e ∙ ap (leaf (comment (Line t))) (l .1)))
-      (subst (Laid last (leaf (comment (Line t)) (leaf (break (l .0)) r))) (sym (ap (λ y. y ++ w) (f ∙ ap (λ y. t ++ y) (l .2)) ∙ append-assoc t (breakBytes (l .0)) w)) (line-on last r w m t (l .0) h))
+    (subst (Laid last (leaf (comment (Line t)) (leaf (break (l .0)) r))) (sym (ap (λ y. y ++ w) (f ∙ ap (λ y. t ++ y) (l .2)) ∙ append-assoc t (breakBytes (l .0)) w)) (line-on last r w m t (l .0) h))
 
 unit-to : (last : Bool) (x r : Pieces) (v w : List ℕ) → UnitL last (inl x) v → Laid last r w → Laid last (join x r) (v ++ w)
 unit-to last x r v w (inl (inl l)) m = closed-to last x r w l m
@@ -187,21 +192,23 @@ more-blank x v h l = (x ∷ [], v, refl, (x, refl, h), blanks-all v l)
 
 -- a space of its own
 new-space : (last : Bool) (g : Between) (s : List ℕ) (x : ℕ) → within Blank x ≡ true → (m : Cut last g s) → Free Blank s → Cut last g (x ∷ s)
-new-space last g s x h m f = record
-  { turns = only-leaf (whitespace (x ∷ [])) ∷ m .turns
-  ; stop = m .stop
-  ; run = (x ∷ [], s, refl, inl (inr (inl (refl, one-blank x h))), f, m .run)
-  ; laid = λ r b. m .laid r b }
+new-space last g s x h m f = record {
+  turns = only-leaf (whitespace (x ∷ [])) ∷ m .turns;
+  stop = m .stop;
+  run = (x ∷ [], s, refl, inl (inr (inl (refl, one-blank x h))), f, m .run);
+  laid = λ r b. m .laid r b;
+}
 
 add-blank : (last : Bool) (g : Between) (s : List ℕ) (x : ℕ) → within Blank x ≡ true → (ts : List Pieces) (c : Pieces) → RunL last ts c s → ((r : Pieces) (b : Bool) → lay (join (joins ts c) r) b ≡ after (flag b g) (lay r)) → Cut last g (x ∷ s)
 add-blank last g s x h [] c l z = new-space last g s x h (record { turns = []; stop = c; run = l; laid = z }) (stop-first last c s Blank refl l)
 add-blank last g s x h (y ∷ ts) c (u, v, e, inl (inl k), f, l) z =
     new-space last g s x h (record { turns = y ∷ ts; stop = c; run = (u, v, e, inl (inl k), f, l); laid = z }) (subst (Free Blank) (sym e) (closed-first y Blank refl v k))
-add-blank last g s x h (y ∷ ts) c (u, v, e, inl (inr (inl k)), f, l) z = record
-  { turns = only-leaf (whitespace (x ∷ u)) ∷ ts
-  ; stop = c
-  ; run = (x ∷ u, v, ap (λ t. x ∷ t) e, inl (inr (inl (refl, more-blank x u h (k .1)))), subst (λ t. Free (wide t) v) (k .0) f, l)
-  ; laid = λ r b. subst (λ t. lay (join (join t (joins ts c)) r) b ≡ after (flag b g) (lay r)) (k .0) (z r b) }
+add-blank last g s x h (y ∷ ts) c (u, v, e, inl (inr (inl k)), f, l) z = record {
+  turns = only-leaf (whitespace (x ∷ u)) ∷ ts;
+  stop = c;
+  run = (x ∷ u, v, ap (λ t. x ∷ t) e, inl (inr (inl (refl, more-blank x u h (k .1)))), subst (λ t. Free (wide t) v) (k .0) f, l);
+  laid = λ r b. subst (λ t. lay (join (join t (joins ts c)) r) b ≡ after (flag b g) (lay r)) (k .0) (z r b);
+}
 add-blank last g s x h (y ∷ ts) c (u, v, e, inl (inr (inr k)), f, l) z =
     new-space last g s x h (record { turns = y ∷ ts; stop = c; run = (u, v, e, inl (inr (inr k)), f, l); laid = z }) (subst (Free Blank) (sym (e ∙ ap (λ t. t ++ v) (k .2))) (break-first (k .0) v))
 add-blank last g s x h (y ∷ ts) c (u, v, e, inr k, f, l) z = absurd k
@@ -226,12 +233,16 @@ add-return last g s (y ∷ ts) c (u, v, e, inl (inl k), f, l) z =
     lone last g s (record { turns = y ∷ ts; stop = c; run = (u, v, e, inl (inl k), f, l); laid = z }) (subst (Free (only 10)) (sym e) (closed-first y (only 10) refl v k))
 add-return last g s (y ∷ ts) c (u, v, e, inl (inr (inl k)), f, l) z =
     lone last g s (record { turns = y ∷ ts; stop = c; run = (u, v, e, inl (inr (inl k)), f, l); laid = z }) (subst (Free (only 10)) (sym e) (blank-first u v (k .1)))
-add-return last g s (y ∷ ts) c (u, v, e, inl (inr (inr (line-feed, k, i))), f, l) z = record
-  { kind = both; turns = ts; stop = c; v = v
-  ; bytes = ap (λ t. 13 ∷ t) (e ∙ ap (λ t. t ++ v) i)
-  ; free = free-none v
-  ; run = l
-  ; laid = λ r. subst (λ t. lay (join (join t (joins ts c)) r) true ≡ after (broken g) (lay r)) k (z r true) }
+add-return last g s (y ∷ ts) c (u, v, e, inl (inr (inr (line-feed, k, i))), f, l) z = record {
+  kind = both;
+  turns = ts;
+  stop = c;
+  v = v;
+  bytes = ap (λ t. 13 ∷ t) (e ∙ ap (λ t. t ++ v) i);
+  free = free-none v;
+  run = l;
+  laid = λ r. subst (λ t. lay (join (join t (joins ts c)) r) true ≡ after (broken g) (lay r)) k (z r true);
+}
 add-return last g s (y ∷ ts) c (u, v, e, inl (inr (inr (carriage-return, k, i))), f, l) z =
     lone last g s (record { turns = y ∷ ts; stop = c; run = (u, v, e, inl (inr (inr (carriage-return, k, i))), f, l); laid = z }) (subst (Free (only 10)) (sym (e ∙ ap (λ t. t ++ v) i)) refl)
 add-return last g s (y ∷ ts) c (u, v, e, inl (inr (inr (both, k, i))), f, l) z =
@@ -240,24 +251,33 @@ add-return last g s (y ∷ ts) c (u, v, e, inr k, f, l) z = absurd k
 
 add-break : (last : Bool) (g : Between) (s : List ℕ) (x : ℕ) → within LineEnd x ≡ true → Cut last g s → Broken last g (x ∷ s)
 add-break last g s x h m =
-    elim (or-cases (within (only 10) x) (within (only 13) x) (sym (within-app (only 10) (only 13) x) ∙ h))
-      [ inl e ↦ subst (λ y. Broken last g (y ∷ s)) (sym (is-only 10 x e)) (record { kind = line-feed; turns = m .turns; stop = m .stop; v = s; bytes = refl; free = free-none s; run = m .run; laid = λ r. m .laid r true })
-      | inr e ↦ subst (λ y. Broken last g (y ∷ s)) (sym (is-only 13 x e)) (add-return last g s (m .turns) (m .stop) (m .run) (m .laid)) ]
+    elim (or-cases (within (only 10) x) (within (only 13) x) (sym (within-app (only 10) (only 13) x) ∙ h)) [
+      | inl e ↦ subst (λ y. Broken last g (y ∷ s)) (sym (is-only 10 x e)) (record { kind = line-feed; turns = m .turns; stop = m .stop; v = s; bytes = refl; free = free-none s; run = m .run; laid = λ r. m .laid r true })
+      | inr e ↦ subst (λ y. Broken last g (y ∷ s)) (sym (is-only 13 x e)) (add-return last g s (m .turns) (m .stop) (m .run) (m .laid))
+    ]
 
 newline-cut : (last : Bool) (g : Between) (u : List ℕ) → Broken last g u → Cut last (broken g) u
-newline-cut last g u m = record
-  { turns = only-leaf (break (m .kind)) ∷ m .turns
-  ; stop = m .stop
-  ; run = (breakBytes (m .kind), m .v, m .bytes, inl (inr (inr (m .kind, refl, refl))), m .free, m .run)
-  ; laid = λ r b. m .laid r ∙ ap (λ y. after y (lay r)) (sym (flag-broken b g)) }
+newline-cut last g u m = record {
+  turns = only-leaf (break (m .kind)) ∷ m .turns;
+  stop = m .stop;
+  run = (breakBytes (m .kind), m .v, m .bytes, inl (inr (inr (m .kind, refl, refl))), m .free, m .run);
+  laid = λ r b. m .laid r ∙ ap (λ y. after y (lay r)) (sym (flag-broken b g));
+}
 
 line-cut : (last : Bool) (g : Between) (t u : List ℕ) → LineComment t → Broken last g u → Cut last (remark false (Line t) (broken g)) (t ++ u)
-line-cut last g t u h m = record
-  { turns = leaf (comment (Line t)) (only-leaf (break (m .kind))) ∷ m .turns
-  ; stop = m .stop
-  ; run = ( t ++ breakBytes (m .kind), m .v, ap (λ y. t ++ y) (m .bytes) ∙ sym (append-assoc t (breakBytes (m .kind)) (m .v))
-          , inl (inl (a-line t (breakBytes (m .kind)) (only-leaf (break (m .kind))) refl refl h (m .kind, refl, refl))), m .free, m .run)
-  ; laid = λ r b. ap (note b (Line t)) (m .laid r) ∙ sym (after-remark b (Line t) (broken g) (lay r)) }
+line-cut last g t u h m = record {
+  turns = leaf (comment (Line t)) (only-leaf (break (m .kind))) ∷ m .turns;
+  stop = m .stop;
+  run = (
+    t ++ breakBytes (m .kind),
+    m .v,
+    ap (λ y. t ++ y) (m .bytes) ∙ sym (append-assoc t (breakBytes (m .kind)) (m .v)),
+    inl (inl (a-line t (breakBytes (m .kind)) (only-leaf (break (m .kind))) refl refl h (m .kind, refl, refl))),
+    m .free,
+    m .run,
+  );
+  laid = λ r b. ap (note b (Line t)) (m .laid r) ∙ sym (after-remark b (Line t) (broken g) (lay r));
+}
 
 pub cut : (last : Bool) {g : Between} {u : List ℕ} → Trivia last g u → Cut last g u
 cut last empty = record { turns = []; stop = end; run = inr (refl, refl); laid = λ r b. sym (after-quiet b (lay r)) }
@@ -265,11 +285,12 @@ cut last (blank {g = g} {s = s} x h t) = (let m = cut last t in add-blank last g
 cut last (newline {g = g} {s = s} x h t) = newline-cut last g (x ∷ s) (add-break last g s x h (cut last t))
 cut last (block-comment {g = g} {t = t} {s = s} h k) =
     let m = cut last k in
-    record
-      { turns = only-leaf (comment (Block t)) ∷ m .turns
-      ; stop = m .stop
-      ; run = (t, s, refl, inl (inl (a-block refl h)), free-none s, m .run)
-      ; laid = λ r b. ap (note b (Block t)) (m .laid r false) ∙ sym (after-remark b (Block t) g (lay r)) }
+    record {
+      turns = only-leaf (comment (Block t)) ∷ m .turns;
+      stop = m .stop;
+      run = (t, s, refl, inl (inl (a-block refl h)), free-none s, m .run);
+      laid = λ r b. ap (note b (Block t)) (m .laid r false) ∙ sym (after-remark b (Block t) g (lay r));
+    }
 cut last (line-comment {g = g} {t = t} {s = s} x h e k) = line-cut last g t (x ∷ s) h (add-break last g s x e (cut last k))
 cut last (open-line {t = t} i h) = record
-  { turns = []; stop = only-leaf (comment (Line t)); run = inl (inl (i, refl, h)); laid = λ r b. sym (after-remark b (Line t) (quiet false) (lay r)) }
+    { turns = []; stop = only-leaf (comment (Line t)); run = inl (inl (i, refl, h)); laid = λ r b. sym (after-remark b (Line t) (quiet false) (lay r)) }

@@ -90,18 +90,20 @@ aside-ok r [] h b lo hi = refl
 aside-ok r (q ∷ qs) h b lo hi =
     let k = and-parts (ltb (r .1) (q .0) || ltb (q .1) (r .0)) (aside r qs) h in
     or-from (leb (q .0) b && leb b (q .1)) (within qs b)
-      (elim (or-cases (ltb (r .1) (q .0)) (ltb (q .1) (r .0)) (k .0))
-        [ inl e ↦ (let e2 = ltb-true (r .1) (q .0) e in and-left (leb (q .0) b) (leb b (q .1)) (lt-leb (q .0) b (omega arith)))
-        | inr e ↦ (let e2 = ltb-true (q .1) (r .0) e in and-right (leb (q .0) b) (leb b (q .1)) (lt-leb b (q .1) (omega arith))) ])
-      (aside-ok r qs (k .1) b lo hi)
+    (elim (or-cases (ltb (r .1) (q .0)) (ltb (q .1) (r .0)) (k .0)) [
+      | inl e ↦ (let e2 = ltb-true (r .1) (q .0) e in and-left (leb (q .0) b) (leb b (q .1)) (lt-leb (q .0) b (omega arith)))
+      | inr e ↦ (let e2 = ltb-true (q .1) (r .0) e in and-right (leb (q .0) b) (leb b (q .1)) (lt-leb b (q .1) (omega arith)))
+    ])
+    (aside-ok r qs (k .1) b lo hi)
 
 pub apart-ok : (c d : Class) → apart c d ≡ true → (b : ℕ) → within c b ≡ true → within d b ≡ false
 apart-ok [] d h b e = absurd (false≢true e)
 apart-ok (r ∷ rs) d h b e =
     let k = and-parts (aside r d) (apart rs d) h in
-    elim (or-cases (leb (r .0) b && leb b (r .1)) (within rs b) e)
-      [ inl y ↦ (let z = and-parts (leb (r .0) b) (leb b (r .1)) y in aside-ok r d (k .0) b (leb-true (r .0) b (z .0)) (leb-true b (r .1) (z .1)))
-      | inr y ↦ apart-ok rs d (k .1) b y ]
+    elim (or-cases (leb (r .0) b && leb b (r .1)) (within rs b) e) [
+      | inl y ↦ (let z = and-parts (leb (r .0) b) (leb b (r .1)) y in aside-ok r d (k .0) b (leb-true (r .0) b (z .0)) (leb-true b (r .1) (z .1)))
+      | inr y ↦ apart-ok rs d (k .1) b y
+    ]
 
 -- a class whose ranges each lie in a range of another, by a test that computes
 abbrev pub inside : ℕ × ℕ → Class → Bool
@@ -115,18 +117,20 @@ covers d (r ∷ rs) = inside r d && covers d rs
 pub inside-ok : (r : ℕ × ℕ) (d : Class) → inside r d ≡ true → (b : ℕ) → r .0 ≤ b → b ≤ r .1 → within d b ≡ true
 inside-ok r [] h b lo hi = absurd (false≢true h)
 inside-ok r (q ∷ qs) h b lo hi =
-    elim (or-cases (leb (q .0) (r .0) && leb (r .1) (q .1)) (inside r qs) h)
-      [ inl e ↦ (let k = and-parts (leb (q .0) (r .0)) (leb (r .1) (q .1)) e in let x = leb-true (q .0) (r .0) (k .0) in let y = leb-true (r .1) (q .1) (k .1) in
+    elim (or-cases (leb (q .0) (r .0) && leb (r .1) (q .1)) (inside r qs) h) [
+      | inl e ↦ (let k = and-parts (leb (q .0) (r .0)) (leb (r .1) (q .1)) e in let x = leb-true (q .0) (r .0) (k .0) in let y = leb-true (r .1) (q .1) (k .1) in
           or-left (leb (q .0) b && leb b (q .1)) (within qs b) (and-from (leb (q .0) b) (leb b (q .1)) (le-leb (q .0) b (omega arith)) (le-leb b (q .1) (omega arith))))
-      | inr e ↦ or-right (leb (q .0) b && leb b (q .1)) (within qs b) (inside-ok r qs e b lo hi) ]
+      | inr e ↦ or-right (leb (q .0) b && leb b (q .1)) (within qs b) (inside-ok r qs e b lo hi)
+    ]
 
 pub covers-ok : (d c : Class) → covers d c ≡ true → (b : ℕ) → within c b ≡ true → within d b ≡ true
 covers-ok d [] h b e = absurd (false≢true e)
 covers-ok d (r ∷ rs) h b e =
     let k = and-parts (inside r d) (covers d rs) h in
-    elim (or-cases (leb (r .0) b && leb b (r .1)) (within rs b) e)
-      [ inl y ↦ (let z = and-parts (leb (r .0) b) (leb b (r .1)) y in inside-ok r d (k .0) b (leb-true (r .0) b (z .0)) (leb-true b (r .1) (z .1)))
-      | inr y ↦ covers-ok d rs (k .1) b y ]
+    elim (or-cases (leb (r .0) b && leb b (r .1)) (within rs b) e) [
+      | inl y ↦ (let z = and-parts (leb (r .0) b) (leb b (r .1)) y in inside-ok r d (k .0) b (leb-true (r .0) b (z .0)) (leb-true b (r .1) (z .1)))
+      | inr y ↦ covers-ok d rs (k .1) b y
+    ]
 
 pub free-covers : (d c : Class) → covers d c ≡ true → (t : List ℕ) → Free d t → Free c t
 free-covers d c h [] f = tt
@@ -151,29 +155,33 @@ carry p u o t h (c ∷ v) b r e w = (subst (Again p u o) e h) (v ++ b ∷ w)
 
 -- one byte
 pub one-laws : (c : Class) (a : ℕ) → within c a ≡ true → Laws (oneL c) (oneP c) c (λ _. false) (λ _. [])
-one-laws c a h = record
-  { first-ok = λ x b u l. (let k = cons-parts b x u [] (l .0) in subst (λ y. within c y ≡ true) (sym (k .0)) (l .1))
-  ; null-ok = λ x l. absurd (nil≢cons (l .0))
-  ; means = m
-  ; complete = λ x u t l f. rw (l .0) (ap (λ v. cond v (res (ok x) t) (res bad (x ∷ t))) (l .1)) }
+one-laws c a h = record {
+  first-ok = λ x b u l. (let k = cons-parts b x u [] (l .0) in subst (λ y. within c y ≡ true) (sym (k .0)) (l .1));
+  null-ok = λ x l. absurd (nil≢cons (l .0));
+  means = m;
+  complete = λ x u t l f. rw (l .0) (ap (λ v. cond v (res (ok x) t) (res bad (x ∷ t))) (l .1));
+}
   where
     ag : (b : ℕ) (t : List ℕ) → within c b ≡ true → Again (oneP c) (b ∷ []) (ok b) t
     ag b [] e = tt
     ag b (d ∷ t) e = λ w. ap (λ v. cond v (res (ok b) (d ∷ w)) (res bad (b ∷ d ∷ w))) e
+
     go : (b : ℕ) (t : List ℕ) (v : Bool) → within c b ≡ v → Means (oneL c) (oneP c) (b ∷ t) (cond v (res (ok b) t) (res bad (b ∷ t)))
     go b t true e = (b ∷ [], refl, (refl, e), ag b t e, tt)
     go b t false e = ([], refl, (a ∷ [], a, (refl, h)), (λ w. ap (λ v. cond v (res (ok b) w) (res bad (b ∷ w))) e), tt)
+
     m : (s : List ℕ) → Means (oneL c) (oneP c) s (oneP c s)
     m [] = ([], refl, (a ∷ [], a, (refl, h)), tt, tt)
     m (b ∷ t) = go b t (within c b) refl
 
 -- nothing
 pub eps-laws : Laws epsL epsP [] (λ _. true) (λ _. [])
-eps-laws = record
-  { first-ok = λ x b u l. absurd (cons≢nil l)
-  ; null-ok = λ x l. refl
-  ; means = λ s. ([], refl, refl, ag s, tt)
-  ; complete = λ x u t l f. rw l refl }
+eps-laws = record {
+  first-ok = λ x b u l. absurd (cons≢nil l);
+  null-ok = λ x l. refl;
+  means = λ s. ([], refl, refl, ag s, tt);
+  complete = λ x u t l f. rw l refl;
+}
   where
     ag : (s : List ℕ) → Again epsP [] (ok tt) s
     ag [] = tt
@@ -194,57 +202,64 @@ module _ {A B : Type 0} (f : A → B) (L : Lang A) (p : Parser A) (first : Class
       ag (b ∷ t) k = λ w. ap (mapR f) (k w)
 
   pub map-laws : (null2 : B → Bool) (ext2 : B → Class) → ((a : A) → null a ≡ true → null2 (f a) ≡ true) → ((a : A) (u t : List ℕ) → L a u → Free (ext2 (f a)) t → Free (ext a) t) → Laws (mapL f L) (mapP f p) first null2 ext2
-  map-laws null2 ext2 hn he = record
-    { first-ok = λ b c u l. h .first-ok (l .0) c u (l .2)
-    ; null-ok = λ b l. subst (λ y. null2 y ≡ true) (l .1) (hn (l .0) (h .null-ok (l .0) (l .2)))
-    ; means = λ s. map-means s (p s) (h .means s)
-    ; complete = λ b u t l k. ap (mapR f) (h .complete (l .0) u t (l .2) (he (l .0) u t (l .2) (subst (λ y. Free (ext2 y) t) (sym (l .1)) k))) ∙ ap (λ y. res (ok y) t) (l .1) }
+  map-laws null2 ext2 hn he = record {
+    first-ok = λ b c u l. h .first-ok (l .0) c u (l .2);
+    null-ok = λ b l. subst (λ y. null2 y ≡ true) (l .1) (hn (l .0) (h .null-ok (l .0) (l .2)));
+    means = λ s. map-means s (p s) (h .means s);
+    complete = λ b u t l k. ap (mapR f) (h .complete (l .0) u t (l .2) (he (l .0) u t (l .2) (subst (λ y. Free (ext2 y) t) (sym (l .1)) k))) ∙ ap (λ y. res (ok y) t) (l .1);
+  }
 
 -- the same parser, its language in other words
 pub say-laws : {A : Type 0} (L M : Lang A) (p : Parser A) (first : Class) (null : A → Bool) (ext : A → Class) → Laws L p first null ext → ((a : A) (u : List ℕ) → L a u → M a u) → ((a : A) (u : List ℕ) → M a u → L a u) → Laws M p first null ext
-say-laws L M p first null ext h to from = record
-  { first-ok = λ a b u l. h .first-ok a b u (from a (b ∷ u) l)
-  ; null-ok = λ a l. h .null-ok a (from a [] l)
-  ; means = λ s. go s (p s) (h .means s)
-  ; complete = λ a u t l. h .complete a u t (from a u l) }
+say-laws L M p first null ext h to from = record {
+  first-ok = λ a b u l. h .first-ok a b u (from a (b ∷ u) l);
+  null-ok = λ a l. h .null-ok a (from a [] l);
+  means = λ s. go s (p s) (h .means s);
+  complete = λ a u t l. h .complete a u t (from a u l);
+}
   where
     says : (u : List ℕ) (o : Out _) → Says L u o → Says M u o
     says u (ok a) l = to a u l
     says u bad l = (l .0, l .1, to (l .1) (u ++ l .0) (l .2))
     says u deep l = (l .0, l .1, to (l .1) (u ++ l .0) (l .2))
+
     go : (s : List ℕ) (x : Res _) → Means L p s x → Means M p s x
     go s (res o t) m = (m .0, m .1, says (m .0) o (m .2), m .3, m .4)
 
 -- the same parser, with a larger first class
 pub first-laws : {A : Type 0} (L : Lang A) (p : Parser A) (first first2 : Class) (null : A → Bool) (ext : A → Class) → Laws L p first null ext → covers first2 first ≡ true → Laws L p first2 null ext
-first-laws L p first first2 null ext h c = record
-  { first-ok = λ a b u l. covers-ok first2 first c b (h .first-ok a b u l)
-  ; null-ok = h .null-ok
-  ; means = h .means
-  ; complete = h .complete }
+first-laws L p first first2 null ext h c = record {
+  first-ok = λ a b u l. covers-ok first2 first c b (h .first-ok a b u l);
+  null-ok = h .null-ok;
+  means = h .means;
+  complete = h .complete;
+}
 
 -- the same parser, with a wider class behind it
 pub wide-laws : {A : Type 0} (L : Lang A) (p : Parser A) (first : Class) (null null2 : A → Bool) (ext ext2 : A → Class) → Laws L p first null ext → ((a : A) → null a ≡ true → null2 a ≡ true) → ((a : A) (u t : List ℕ) → L a u → Free (ext2 a) t → Free (ext a) t) → Laws L p first null2 ext2
-wide-laws L p first null null2 ext ext2 h hn he = record
-  { first-ok = h .first-ok
-  ; null-ok = λ a l. hn a (h .null-ok a l)
-  ; means = h .means
-  ; complete = λ a u t l f. h .complete a u t l (he a u t l f) }
+wide-laws L p first null null2 ext ext2 h hn he = record {
+  first-ok = h .first-ok;
+  null-ok = λ a l. hn a (h .null-ok a l);
+  means = h .means;
+  complete = λ a u t l f. h .complete a u t l (he a u t l f);
+}
 
 -- the same parser with another result, its language in other words
 pub conv-laws : {A B : Type 0} (f : A → B) (L : Lang A) (M : Lang B) (p : Parser A) (first : Class) (null : A → Bool) (ext : A → Class) → Laws L p first null ext → ((a : A) (u : List ℕ) → L a u → M (f a) u) → ((b : B) (u : List ℕ) → M b u → (a : A) × (f a ≡ b) × L a u) → (null2 : B → Bool) (ext2 : B → Class) → ((a : A) → null a ≡ true → null2 (f a) ≡ true) → ((a : A) (u t : List ℕ) → L a u → Free (ext2 (f a)) t → Free (ext a) t) → Laws M (mapP f p) first null2 ext2
 conv-laws f L M p first null ext h to from null2 ext2 hn he =
     say-laws (mapL f L) M (mapP f p) first null2 ext2 (map-laws f L p first null ext h null2 ext2 hn he)
-      (λ b u l. subst (λ y. M y u) (l .1) (to (l .0) u (l .2))) from
+    (λ b u l. subst (λ y. M y u) (l .1) (to (l .0) u (l .2))) from
 
 -- one after the other
 module _ {A B : Type 0} (L : Lang A) (p : Parser A) (first : Class) (null : A → Bool) (ext : A → Class) (h : Laws L p first null ext) (M : Lang B) (q : Parser B) (first2 : Class) (null2 : B → Bool) (ext2 : B → Class) (k : Laws M q first2 null2 ext2) where
   seq-second : (s : List ℕ) (a : A) (t : List ℕ) → Means L p s (res (ok a) t) → (y : Res B) → Means M q t y → Means (seqL L M) (seqP p q) s (mapR (λ b. (a, b)) y)
-  seq-second s a t m (res o r) n =
-      ( m .0 ++ n .0
-      , m .1 ∙ ap (λ y. m .0 ++ y) (n .1) ∙ sym (append-assoc (m .0) (n .0) r)
-      , says-map M (seqL L M) (λ b. (a, b)) (n .0) (m .0 ++ n .0) (λ b w l. (m .0, n .0 ++ w, append-assoc (m .0) (n .0) w, m .2, l)) o (n .2)
-      , ag r (n .1) (n .3), halts-map (λ b. (a, b)) o r (n .4))
+  seq-second s a t m (res o r) n = (
+    m .0 ++ n .0,
+    m .1 ∙ ap (λ y. m .0 ++ y) (n .1) ∙ sym (append-assoc (m .0) (n .0) r),
+    says-map M (seqL L M) (λ b. (a, b)) (n .0) (m .0 ++ n .0) (λ b w l. (m .0, n .0 ++ w, append-assoc (m .0) (n .0) w, m .2, l)) o (n .2),
+    ag r (n .1) (n .3),
+    halts-map (λ b. (a, b)) o r (n .4),
+  )
     where
       ag : (r : List ℕ) → t ≡ n .0 ++ r → Again q (n .0) o r → Again (seqP p q) (m .0 ++ n .0) (mapO (λ b. (a, b)) o) r
       ag [] e z = tt
@@ -252,18 +267,24 @@ module _ {A B : Type 0} (L : Lang A) (p : Parser A) (first : Class) (null : A �
 
   seq-means : (c : B) (v : List ℕ) → M c v → (s : List ℕ) (x : Res A) → Means L p s x → Means (seqL L M) (seqP p q) s (bind q x)
   seq-means c v l s (res (ok a) t) m = seq-second s a t m (q t) (k .means t)
-  seq-means c v l s (res bad t) m =
-      ( m .0, m .1
-      , (m .2 .0 ++ v, (m .2 .1, c), (m .0 ++ m .2 .0, v, sym (append-assoc (m .0) (m .2 .0) v), m .2 .2, l))
-      , ag t (m .3), tt)
+  seq-means c v l s (res bad t) m = (
+    m .0,
+    m .1,
+    (m .2 .0 ++ v, (m .2 .1, c), (m .0 ++ m .2 .0, v, sym (append-assoc (m .0) (m .2 .0) v), m .2 .2, l)),
+    ag t (m .3),
+    tt,
+  )
     where
       ag : (t : List ℕ) → Again p (m .0) bad t → Again (seqP p q) (m .0) bad t
       ag [] z = tt
       ag (b ∷ t) z = λ w. ap (bind q) (z w)
-  seq-means c v l s (res deep t) m =
-      ( m .0, m .1
-      , (m .2 .0 ++ v, (m .2 .1, c), (m .0 ++ m .2 .0, v, sym (append-assoc (m .0) (m .2 .0) v), m .2 .2, l))
-      , ag t (m .3), m .4)
+  seq-means c v l s (res deep t) m = (
+    m .0,
+    m .1,
+    (m .2 .0 ++ v, (m .2 .1, c), (m .0 ++ m .2 .0, v, sym (append-assoc (m .0) (m .2 .0) v), m .2 .2, l)),
+    ag t (m .3),
+    m .4,
+  )
     where
       ag : (t : List ℕ) → Again p (m .0) deep t → Again (seqP p q) (m .0) deep t
       ag [] z = tt
@@ -290,16 +311,17 @@ module _ {A B : Type 0} (L : Lang A) (p : Parser A) (first : Class) (null : A �
       in-left first (cond nl first2 []) b (subst (λ y. within first y ≡ true) (sym (head-eq-of-cons-eq e)) (h .first-ok (x .0) c u l))
 
   pub seq-laws : (nl : Bool) → ((a : A) → null a ≡ true → nl ≡ true) → ((a : A) → apart first2 (ext a) ≡ true) → (c : B) (v : List ℕ) → M c v → Laws (seqL L M) (seqP p q) (seq-first nl) seq-null seq-ext
-  seq-laws nl hn d c v l = record
-    { first-ok = λ x b w z. seq-first-ok nl hn x b w (z .0) (z .1) (z .2) (z .3) (z .4)
-    ; null-ok = λ x z. (let e = app-nil (z .0) (z .1) (z .2) in
-        and-from (null (x .0)) (null2 (x .1)) (h .null-ok (x .0) (subst (L (x .0)) (e .0) (z .3))) (k .null-ok (x .1) (subst (M (x .1)) (e .1) (z .4))))
-    ; means = λ s. seq-means c v l s (p s) (h .means s)
-    ; complete = λ x w t z f.
+  seq-laws nl hn d c v l = record {
+    first-ok = λ x b w z. seq-first-ok nl hn x b w (z .0) (z .1) (z .2) (z .3) (z .4);
+    null-ok = λ x z. (let e = app-nil (z .0) (z .1) (z .2) in
+        and-from (null (x .0)) (null2 (x .1)) (h .null-ok (x .0) (subst (L (x .0)) (e .0) (z .3))) (k .null-ok (x .1) (subst (M (x .1)) (e .1) (z .4))));
+    means = λ s. seq-means c v l s (p s) (h .means s);
+    complete = λ x w t z f.
         ap (λ y. bind q (p (y ++ t))) (z .2)
         ∙ ap (λ y. bind q (p y)) (append-assoc (z .0) (z .1) t)
         ∙ ap (bind q) (h .complete (x .0) (z .0) (z .1 ++ t) (z .3) (seq-free (x .0) (x .1) (z .1) t (apart-ok first2 (ext (x .0)) (d (x .0))) (z .4) f))
-        ∙ ap (mapR (λ b. (x .0, b))) (k .complete (x .1) (z .1) t (z .4) (free-left (ext2 (x .1)) (cond (null2 (x .1)) (ext (x .0)) []) t f)) }
+        ∙ ap (mapR (λ b. (x .0, b))) (k .complete (x .1) (z .1) t (z .4) (free-left (ext2 (x .1)) (cond (null2 (x .1)) (ext (x .0)) []) t f));
+  }
 
 -- one or the other
 pub starts-same : (c : Class) (u : List ℕ) (b : ℕ) (t w : List ℕ) → starts c (u ++ b ∷ t) ≡ starts c (u ++ b ∷ w)
@@ -321,7 +343,7 @@ module _ {A B : Type 0} (L : Lang A) (p : Parser A) (first : Class) (null : A �
       ag : (t : List ℕ) → s ≡ m .0 ++ t → Again p (m .0) o t → Again (altP first p q) (m .0) (mapO inl o) t
       ag [] f z = tt
       ag (b ∷ t) f z = λ w.
-        ap (λ y. pick y p q (m .0 ++ b ∷ w)) (starts-same first (m .0) b w t ∙ ap (starts first) (sym f) ∙ e) ∙ ap (mapR inl) (z w)
+          ap (λ y. pick y p q (m .0 ++ b ∷ w)) (starts-same first (m .0) b w t ∙ ap (starts first) (sym f) ∙ e) ∙ ap (mapR inl) (z w)
 
   alt-right : (s : List ℕ) → starts first s ≡ false → (x : Res B) → Means M q s x → Means (altL L M) (altP first p q) s (mapR inr x)
   alt-right s e (res o t) m = (m .0, m .1, says-map M (altL L M) inr (m .0) (m .0) (λ a w l. l) o (m .2), ag t (m .1) (m .3), halts-map inr o t (m .4))
@@ -329,7 +351,7 @@ module _ {A B : Type 0} (L : Lang A) (p : Parser A) (first : Class) (null : A �
       ag : (t : List ℕ) → s ≡ m .0 ++ t → Again q (m .0) o t → Again (altP first p q) (m .0) (mapO inr o) t
       ag [] f z = tt
       ag (b ∷ t) f z = λ w.
-        ap (λ y. pick y p q (m .0 ++ b ∷ w)) (starts-same first (m .0) b w t ∙ ap (starts first) (sym f) ∙ e) ∙ ap (mapR inr) (z w)
+          ap (λ y. pick y p q (m .0 ++ b ∷ w)) (starts-same first (m .0) b w t ∙ ap (starts first) (sym f) ∙ e) ∙ ap (mapR inr) (z w)
 
   alt-means : (s : List ℕ) (v : Bool) → starts first s ≡ v → Means (altL L M) (altP first p q) s (pick v p q s)
   alt-means s true e = alt-left s e (p s) (h .means s)
@@ -359,11 +381,12 @@ module _ {A B : Type 0} (L : Lang A) (p : Parser A) (first : Class) (null : A �
       ∙ ap (mapR inr) (k .complete c (b ∷ u) t l (free-left (ext2 c) (cond (null2 c) first []) t f))
 
   pub alt-laws : ((a : A) → null a ≡ false) → apart first2 first ≡ true → Laws (altL L M) (altP first p q) (first ++ first2) alt-null alt-ext
-  alt-laws hn d = record
-    { first-ok = alt-first-ok
-    ; null-ok = alt-null-ok hn
-    ; means = λ s. alt-means s (starts first s) refl
-    ; complete = alt-complete hn d }
+  alt-laws hn d = record {
+    first-ok = alt-first-ok;
+    null-ok = alt-null-ok hn;
+    means = λ s. alt-means s (starts first s) refl;
+    complete = alt-complete hn d;
+  }
 
 -- one after the other, where what follows does not go on the first
 abbrev pub tiedL : {A B : Type 0} → Lang A → (A → Class) → Lang B → Lang (A × B)
@@ -378,11 +401,13 @@ module _ {A B : Type 0} (L : Lang A) (p : Parser A) (first : Class) (null : A �
   tied-says a x (b ∷ y) r z g deep n = (n .0, (a, n .1), (x, (b ∷ y) ++ n .0, append-assoc x (b ∷ y) (n .0), z, g, n .2))
 
   tied-second : (s : List ℕ) (a : A) (t : List ℕ) → Free (ext a) t → Means L p s (res (ok a) t) → (y : Res B) → Means M q t y → Means (tiedL L ext M) (seqP p q) s (mapR (λ b. (a, b)) y)
-  tied-second s a t g m (res o r) n =
-      ( m .0 ++ n .0
-      , m .1 ∙ ap (λ y. m .0 ++ y) (n .1) ∙ sym (append-assoc (m .0) (n .0) r)
-      , tied-says a (m .0) (n .0) r (m .2) (subst (Free (ext a)) (n .1) g) o (n .2)
-      , ag r (n .1) (n .3), halts-map (λ b. (a, b)) o r (n .4))
+  tied-second s a t g m (res o r) n = (
+    m .0 ++ n .0,
+    m .1 ∙ ap (λ y. m .0 ++ y) (n .1) ∙ sym (append-assoc (m .0) (n .0) r),
+    tied-says a (m .0) (n .0) r (m .2) (subst (Free (ext a)) (n .1) g) o (n .2),
+    ag r (n .1) (n .3),
+    halts-map (λ b. (a, b)) o r (n .4),
+  )
     where
       ag : (r : List ℕ) → t ≡ n .0 ++ r → Again q (n .0) o r → Again (seqP p q) (m .0 ++ n .0) (mapO (λ b. (a, b)) o) r
       ag [] e z = tt
@@ -409,16 +434,17 @@ module _ {A B : Type 0} (L : Lang A) (p : Parser A) (first : Class) (null : A �
   tied-first x b w (d ∷ u) v e y m = in-left first first2 b (subst (λ y. within first y ≡ true) (sym (head-eq-of-cons-eq e)) (h .first-ok (x .0) d u y))
 
   pub tied-laws : Laws (tiedL L ext M) (seqP p q) (first ++ first2) (λ x. null (x .0) && null2 (x .1)) (λ x. ext2 (x .1) ++ cond (null2 (x .1)) (ext (x .0)) [])
-  tied-laws = record
-    { first-ok = λ x b w z. tied-first x b w (z .0) (z .1) (z .2) (z .3) (z .5)
-    ; null-ok = λ x z. (let e = app-nil (z .0) (z .1) (z .2) in
-        and-from (null (x .0)) (null2 (x .1)) (h .null-ok (x .0) (subst (L (x .0)) (e .0) (z .3))) (k .null-ok (x .1) (subst (M (x .1)) (e .1) (z .5))))
-    ; means = λ s. tied-means s (p s) refl (h .means s)
-    ; complete = λ x w t z f.
+  tied-laws = record {
+    first-ok = λ x b w z. tied-first x b w (z .0) (z .1) (z .2) (z .3) (z .5);
+    null-ok = λ x z. (let e = app-nil (z .0) (z .1) (z .2) in
+        and-from (null (x .0)) (null2 (x .1)) (h .null-ok (x .0) (subst (L (x .0)) (e .0) (z .3))) (k .null-ok (x .1) (subst (M (x .1)) (e .1) (z .5))));
+    means = λ s. tied-means s (p s) refl (h .means s);
+    complete = λ x w t z f.
         ap (λ y. bind q (p (y ++ t))) (z .2)
         ∙ ap (λ y. bind q (p y)) (append-assoc (z .0) (z .1) t)
         ∙ ap (bind q) (h .complete (x .0) (z .0) (z .1 ++ t) (z .3) (tied-free (x .0) (x .1) (z .1) t (z .4) (z .5) f))
-        ∙ ap (mapR (λ b. (x .0, b))) (k .complete (x .1) (z .1) t (z .5) (free-left (ext2 (x .1)) (cond (null2 (x .1)) (ext (x .0)) []) t f)) }
+        ∙ ap (mapR (λ b. (x .0, b))) (k .complete (x .1) (z .1) t (z .5) (free-left (ext2 (x .1)) (cond (null2 (x .1)) (ext (x .0)) []) t f));
+  }
 
 -- one or the other where the result does not say which, with one class behind both
 module _ {A : Type 0} (L M : Lang A) (p q : Parser A) (f g : Class) (n : A → Bool) (e : A → Class) (h : Laws L p f (λ _. false) e) (k : Laws M q g n e) where
@@ -443,6 +469,7 @@ module _ {A : Type 0} (L M : Lang A) (p q : Parser A) (f g : Class) (n : A → B
       behind : (b : A) (u t : List ℕ) → M b u → Free (e b) t → (v : Bool) → n b ≡ v → Free (cond v f []) t
       behind b u t l y true z = w b u t l z y
       behind b u t l y false z = free-none t
+
       free : (x : A ⊎ A) (u t : List ℕ) → altL L M x u → Free (e (either x)) t → Free (alt-ext L p f (λ _. false) e h M q g n e k x) t
       free (inl a) u t l y = y
       free (inr b) u t l y = free-both (e b) (cond (n b) f []) t y (behind b u t l y (n b) refl)
@@ -523,19 +550,21 @@ module _ {A B : Type 0} (L : Lang (A ⊎ B)) (p : Parser (A ⊎ B)) (first : Cla
   more-says c v l f a x (b ∷ y) r z g deep k = (k .0, onto a (k .1), (x, (b ∷ y) ++ k .0, append-assoc x (b ∷ y) (k .0), z, g, k .2))
 
   iter-more : (c : B) (v : List ℕ) → L (inr c) v → ((a : A) → Free (ext (inl a)) v) → (s : List ℕ) (a : A) (t : List ℕ) → Free (ext (inl a)) t → Means L p s (res (ok (inl a)) t) → (y : Res (List A × B)) → Means (iterL L wide) (iterP p) t y → Means (iterL L wide) (iterP p) s (mapR (onto a) y)
-  iter-more c v l f s a t g m (res o r) n =
-      ( m .0 ++ n .0
-      , m .1 ∙ ap (λ y. m .0 ++ y) (n .1) ∙ sym (append-assoc (m .0) (n .0) r)
-      , more-says c v l f a (m .0) (n .0) r (m .2) (subst (Free (ext (inl a))) (n .1) g) o (n .2)
-      , ag r (n .1) (n .3), halts-map (onto a) o r (n .4))
+  iter-more c v l f s a t g m (res o r) n = (
+    m .0 ++ n .0,
+    m .1 ∙ ap (λ y. m .0 ++ y) (n .1) ∙ sym (append-assoc (m .0) (n .0) r),
+    more-says c v l f a (m .0) (n .0) r (m .2) (subst (Free (ext (inl a))) (n .1) g) o (n .2),
+    ag r (n .1) (n .3),
+    halts-map (onto a) o r (n .4),
+  )
     where
       ag : (r : List ℕ) → t ≡ n .0 ++ r → Again (iterP p) (n .0) o r → Again (iterP p) (m .0 ++ n .0) (mapO (onto a) o) r
       ag [] e z = tt
       ag (b ∷ r) e z = λ w.
-        ap (iterP p) (append-assoc (m .0) (n .0) (b ∷ w))
-        ∙ iter-turn (m .0 ++ (n .0 ++ b ∷ w))
-        ∙ ap (turn (iterP p)) (carry p (m .0) (ok (inl a)) t (m .3) (n .0) b r e w)
-        ∙ ap (mapR (onto a)) (z w)
+          ap (iterP p) (append-assoc (m .0) (n .0) (b ∷ w))
+          ∙ iter-turn (m .0 ++ (n .0 ++ b ∷ w))
+          ∙ ap (turn (iterP p)) (carry p (m .0) (ok (inl a)) t (m .3) (n .0) b r e w)
+          ∙ ap (mapR (onto a)) (z w)
 
   iter-last : (s : List ℕ) (o : Out (A ⊎ B)) (o2 : Out (List A × B)) (t : List ℕ) → ((r : List ℕ) → turn (iterP p) (res o r) ≡ res o2 r) → (m : Means L p s (res o t)) → Says (iterL L wide) (m .0) o2 → Halts o2 t → Means (iterL L wide) (iterP p) s (res o2 t)
   iter-last s o o2 t f m y k = (m .0, m .1, y, ag t (m .3), k)
@@ -595,8 +624,9 @@ module _ {A B : Type 0} (L : Lang (A ⊎ B)) (p : Parser (A ⊎ B)) (first : Cla
         ∙ ap (mapR (onto a)) (iter-complete more c (l .1) t (l .5) f)
 
     pub iter-laws : Greedy → (c : B) (v : List ℕ) → L (inr c) v → ((a : A) → Free (ext (inl a)) v) → Laws (iterL L wide) (iterP p) first iter-null (iter-ext E)
-    iter-laws g c v l f = record
-      { first-ok = λ x b w z. iter-first-ok (x .0) (x .1) b w z
-      ; null-ok = λ x z. iter-null-ok (x .0) (x .1) z
-      ; means = λ s. iter-means c v l f g (suc (length s)) s (omega arith)
-      ; complete = λ x w t z f. iter-complete (x .0) (x .1) w t z f }
+    iter-laws g c v l f = record {
+      first-ok = λ x b w z. iter-first-ok (x .0) (x .1) b w z;
+      null-ok = λ x z. iter-null-ok (x .0) (x .1) z;
+      means = λ s. iter-means c v l f g (suc (length s)) s (omega arith);
+      complete = λ x w t z f. iter-complete (x .0) (x .1) w t z f;
+    }

@@ -75,17 +75,22 @@ pub record ItemsTo (f : Frame) (n : ℕ) (a : Pieces) (u : List ℕ) : Type 0 wh
   pub printed : print a ≡ u
 
 scalar-to : (n : ℕ) (a : Pieces) (u : List ℕ) → ScalarL a u → Reading Value n a u
-scalar-to n a u (inl (e, (t, q, m))) = subst (λ y. Reading Value n y u) (sym e) (record
-  { label = Text t; inside = stop false; is = subst (Value (Text t) (stop false)) (sym q) (text m)
-  ; laid = λ r b. ap (λ y. item b (Text y) (stop false) (lay r false)) (ap inner q ∙ inner-quoted t); depth = omega arith; printed = append-nil u })
+scalar-to n a u (inl (e, (t, q, m))) = subst (λ y. Reading Value n y u) (sym e) (record {
+  label = Text t;
+  inside = stop false;
+  is = subst (Value (Text t) (stop false)) (sym q) (text m);
+  laid = λ r b. ap (λ y. item b (Text y) (stop false) (lay r false)) (ap inner q ∙ inner-quoted t);
+  depth = omega arith;
+  printed = append-nil u;
+})
 scalar-to n a u (inr (inl (e, q))) = subst (λ y. Reading Value n y u) (sym e) (record
-  { label = Null; inside = stop false; is = subst (Value Null (stop false)) (sym q) null; laid = λ r b. refl; depth = omega arith; printed = sym q })
+    { label = Null; inside = stop false; is = subst (Value Null (stop false)) (sym q) null; laid = λ r b. refl; depth = omega arith; printed = sym q })
 scalar-to n a u (inr (inr (inl (e, q)))) = subst (λ y. Reading Value n y u) (sym e) (record
-  { label = Boolean true; inside = stop false; is = subst (Value (Boolean true) (stop false)) (sym q) truth; laid = λ r b. refl; depth = omega arith; printed = sym q })
+    { label = Boolean true; inside = stop false; is = subst (Value (Boolean true) (stop false)) (sym q) truth; laid = λ r b. refl; depth = omega arith; printed = sym q })
 scalar-to n a u (inr (inr (inr (inl (e, q))))) = subst (λ y. Reading Value n y u) (sym e) (record
-  { label = Boolean false; inside = stop false; is = subst (Value (Boolean false) (stop false)) (sym q) falsity; laid = λ r b. refl; depth = omega arith; printed = sym q })
+    { label = Boolean false; inside = stop false; is = subst (Value (Boolean false) (stop false)) (sym q) falsity; laid = λ r b. refl; depth = omega arith; printed = sym q })
 scalar-to n a u (inr (inr (inr (inr (e, m))))) = subst (λ y. Reading Value n y u) (sym e) (record
-  { label = Numeral u; inside = stop false; is = numeral m; laid = λ r b. refl; depth = omega arith; printed = append-nil u })
+    { label = Numeral u; inside = stop false; is = numeral m; laid = λ r b. refl; depth = omega arith; printed = append-nil u })
 
 pub shut-levels : (h : Between) → levels (after h shut) ≡ 0
 shut-levels h = after-levels h shut 0 (λ b. refl)
@@ -101,21 +106,22 @@ module _ (n : ℕ) (V : Lang Pieces) (read : (a : Pieces) (u : List ℕ) → V a
       let ce : c ≡ body = sym j1 ∙ ap (λ y. join y x1) (n0 ∙ ap (λ y. only-leaf (name y)) q) ∙ ap (leaf (name (quoted t))) (sym j2 ∙ ap (join y0) (sym j3 ∙ ap (λ y. join y z1) k ∙ ap (leaf (token colon)) (sym j4))) in
       let ins : Layout = mark false Name (after (G .gap) (λ b. mark b Colon (after (H .gap) (λ d. item d (L .label) (L .inside) (stop false))))) in
       let le : lay body false ≡ ins =
-            ap (mark false Name) (G .laid (leaf (token colon) (join r0 r1)) false
-              ∙ after-same (G .gap) (lay (leaf (token colon) (join r0 r1))) (λ b. mark b Colon (after (H .gap) (λ d. item d (L .label) (L .inside) (stop false))))
-                  (λ b. ap (mark b Colon) (H .laid r1 false ∙ after-same (H .gap) (lay r1) (λ d. item d (L .label) (L .inside) (stop false)) (λ d. ap (λ y. lay y d) (sym (join-end r1)) ∙ L .laid end d)))) in
+      ap (mark false Name) (G .laid (leaf (token colon) (join r0 r1)) false
+      ∙ after-same (G .gap) (lay (leaf (token colon) (join r0 r1))) (λ b. mark b Colon (after (H .gap) (λ d. item d (L .label) (L .inside) (stop false))))
+      (λ b. ap (mark b Colon) (H .laid r1 false ∙ after-same (H .gap) (lay r1) (λ d. item d (L .label) (L .inside) (stop false)) (λ d. ap (λ y. lay y d) (sym (join-end r1)) ∙ L .laid end d)))) in
       let by : u ≡ quoted t ++ (v0 ++ 58 ∷ (s0 ++ s1)) = b1 ∙ ap (λ y. y ++ u1) q ∙ ap (λ y. quoted t ++ y) (b2 ∙ ap (λ y. v0 ++ y) (b3 ∙ ap (λ y. y ++ w1) kb ∙ ap (λ y. 58 ∷ y) b4)) in
       let lv : levels ins ≡ max (raised (L .label) (levels (L .inside))) 0 =
-            after-levels (G .gap) (λ b. mark b Colon (after (H .gap) (λ d. item d (L .label) (L .inside) (stop false)))) (max (raised (L .label) (levels (L .inside))) 0)
-              (λ b. after-levels (H .gap) (λ d. item d (L .label) (L .inside) (stop false)) (max (raised (L .label) (levels (L .inside))) 0) (λ d. refl)) in
+      after-levels (G .gap) (λ b. mark b Colon (after (H .gap) (λ d. item d (L .label) (L .inside) (stop false)))) (max (raised (L .label) (levels (L .inside))) 0)
+      (λ b. after-levels (H .gap) (λ d. item d (L .label) (L .inside) (stop false)) (max (raised (L .label) (levels (L .inside))) 0) (λ d. refl)) in
       let dp = L .depth in
-      subst (λ y. Reading (Item braces) n y u) e (subst (λ y. Reading (Item braces) n (box property y end) u) (sym ce) (record
-        { label = Member t
-        ; inside = ins
-        ; is = subst (Item braces (Member t) ins) (sym by) (member ms (G .trivia) (H .trivia) (L .is))
-        ; laid = λ r b. ap (λ y. item b (Member y) (lay body false) (lay r false)) (inner-quoted t) ∙ ap (λ y. item b (Member t) y (lay r false)) le
-        ; depth = omega arith
-        ; printed = append-nil (print body) ∙ ap (λ y. quoted t ++ y) (print-join y0 (leaf (token colon) (join r0 r1)) ∙ ap (λ y. y ++ 58 ∷ print (join r0 r1)) (G .printed) ∙ ap (λ y. v0 ++ 58 ∷ y) (print-join r0 r1 ∙ ap (λ y. y ++ print r1) (H .printed) ∙ ap (λ y. s0 ++ y) (L .printed))) ∙ sym by }))
+      subst (λ y. Reading (Item braces) n y u) e (subst (λ y. Reading (Item braces) n (box property y end) u) (sym ce) (record {
+        label = Member t;
+        inside = ins;
+        is = subst (Item braces (Member t) ins) (sym by) (member ms (G .trivia) (H .trivia) (L .is));
+        laid = λ r b. ap (λ y. item b (Member y) (lay body false) (lay r false)) (inner-quoted t) ∙ ap (λ y. item b (Member t) y (lay r false)) le;
+        depth = omega arith;
+        printed = append-nil (print body) ∙ ap (λ y. quoted t ++ y) (print-join y0 (leaf (token colon) (join r0 r1)) ∙ ap (λ y. y ++ 58 ∷ print (join r0 r1)) (G .printed) ∙ ap (λ y. v0 ++ 58 ∷ y) (print-join r0 r1 ∙ ap (λ y. y ++ print r1) (H .printed) ∙ ap (λ y. s0 ++ y) (L .printed))) ∙ sym by;
+      }))
 
   element-to : (a : Pieces) (u : List ℕ) → V a u → Reading (Item brackets) n a u
   element-to a u l = (let m = read a u l in record { label = m .label; inside = m .inside; is = element (m .is); laid = m .laid; depth = m .depth; printed = m .printed })
@@ -130,10 +136,11 @@ module _ (n : ℕ) (V : Lang Pieces) (read : (a : Pieces) (u : List ℕ) → V a
       let G = trivia-to false g v t in
       let E : lay (join g (only-leaf (token (closeToken f)))) false ≡ after (G .gap) shut = G .laid (only-leaf (token (closeToken f))) false ∙ after-same (G .gap) (lay (only-leaf (token (closeToken f)))) shut (closing f) in
       let lv = shut-levels (G .gap) in
-      subst (λ y. ItemsTo f n (join g y) (v ++ w)) (sym e) (subst (λ y. ItemsTo f n (join g (only-leaf (token (closeToken f)))) (v ++ y)) (sym (q ∙ ap (λ y. y ∷ []) (close-byte f))) (record
-        { items = subst (λ y. Items f y (v ++ closer f ∷ [])) (sym E) (close (G .trivia))
-        ; depth = subst (λ y. levels y ≤ n) (sym E) (omega arith)
-        ; printed = print-join g (only-leaf (token (closeToken f))) ∙ ap (λ y. y ++ tokenByte (closeToken f) ∷ []) (G .printed) ∙ ap (λ y. v ++ y ∷ []) (close-byte f) }))
+      subst (λ y. ItemsTo f n (join g y) (v ++ w)) (sym e) (subst (λ y. ItemsTo f n (join g (only-leaf (token (closeToken f)))) (v ++ y)) (sym (q ∙ ap (λ y. y ∷ []) (close-byte f))) (record {
+        items = subst (λ y. Items f y (v ++ closer f ∷ [])) (sym E) (close (G .trivia));
+        depth = subst (λ y. levels y ≤ n) (sym E) (omega arith);
+        printed = print-join g (only-leaf (token (closeToken f))) ∙ ap (λ y. y ++ tokenByte (closeToken f) ∷ []) (G .printed) ∙ ap (λ y. v ++ y ∷ []) (close-byte f);
+      }))
 
   -- an item, and the closing bracket
   last-to : (f : Frame) (g i h c : Pieces) (s t r w : List ℕ) → TriviaL false g s → ItemL V f i t → TriviaL false h r → TokenL (closeToken f) c w → ItemsTo f n (join g (join i (join h c))) (s ++ (t ++ (r ++ w)))
@@ -144,17 +151,18 @@ module _ (n : ℕ) (V : Lang Pieces) (read : (a : Pieces) (u : List ℕ) → V a
       let k : Pieces = only-leaf (token (closeToken f)) in
       let Y : Layout = after (G .gap) (λ b. item b (I .label) (I .inside) (after (H .gap) shut)) in
       let E : lay (join g (join i (join h k))) false ≡ Y =
-            G .laid (join i (join h k)) false ∙ after-same (G .gap) (lay (join i (join h k))) (λ b. item b (I .label) (I .inside) (after (H .gap) shut))
-              (λ b. I .laid (join h k) b ∙ ap (item b (I .label) (I .inside)) (H .laid k false ∙ after-same (H .gap) (lay k) shut (closing f))) in
+      G .laid (join i (join h k)) false ∙ after-same (G .gap) (lay (join i (join h k))) (λ b. item b (I .label) (I .inside) (after (H .gap) shut))
+      (λ b. I .laid (join h k) b ∙ ap (item b (I .label) (I .inside)) (H .laid k false ∙ after-same (H .gap) (lay k) shut (closing f))) in
       let l0 = shut-levels (H .gap) in
       let lv : levels Y ≡ max (raised (I .label) (levels (I .inside))) (levels (after (H .gap) shut)) = after-levels (G .gap) (λ b. item b (I .label) (I .inside) (after (H .gap) shut)) (max (raised (I .label) (levels (I .inside))) (levels (after (H .gap) shut))) (λ b. refl) in
       let dp = I .depth in
-      subst (λ y. ItemsTo f n (join g (join i (join h y))) (s ++ (t ++ (r ++ w)))) (sym e) (subst (λ y. ItemsTo f n (join g (join i (join h k))) (s ++ (t ++ (r ++ y)))) (sym (q ∙ ap (λ y. y ∷ []) (close-byte f))) (record
-        { items = subst (λ y. Items f y (s ++ (t ++ (r ++ closer f ∷ [])))) (sym E) (last (G .trivia) (I .is) (H .trivia))
-        ; depth = subst (λ y. levels y ≤ n) (sym E) (omega arith)
-        ; printed = print-join g (join i (join h k)) ∙ ap (λ y. y ++ print (join i (join h k))) (G .printed)
+      subst (λ y. ItemsTo f n (join g (join i (join h y))) (s ++ (t ++ (r ++ w)))) (sym e) (subst (λ y. ItemsTo f n (join g (join i (join h k))) (s ++ (t ++ (r ++ y)))) (sym (q ∙ ap (λ y. y ∷ []) (close-byte f))) (record {
+        items = subst (λ y. Items f y (s ++ (t ++ (r ++ closer f ∷ [])))) (sym E) (last (G .trivia) (I .is) (H .trivia));
+        depth = subst (λ y. levels y ≤ n) (sym E) (omega arith);
+        printed = print-join g (join i (join h k)) ∙ ap (λ y. y ++ print (join i (join h k))) (G .printed)
             ∙ ap (λ y. s ++ y) (print-join i (join h k) ∙ ap (λ y. y ++ print (join h k)) (I .printed)
-              ∙ ap (λ y. t ++ y) (print-join h k ∙ ap (λ y. y ++ tokenByte (closeToken f) ∷ []) (H .printed) ∙ ap (λ y. r ++ y ∷ []) (close-byte f))) }))
+            ∙ ap (λ y. t ++ y) (print-join h k ∙ ap (λ y. y ++ tokenByte (closeToken f) ∷ []) (H .printed) ∙ ap (λ y. r ++ y ∷ []) (close-byte f)));
+      }))
 
   -- an item, a comma and more
   more-to : (f : Frame) (g i h c R : Pieces) (s t r w v : List ℕ) → TriviaL false g s → ItemL V f i t → TriviaL false h r → TokenL comma c w → ItemsTo f n R v → ItemsTo f n (join (join g (join i (join h c))) R) ((s ++ (t ++ (r ++ w))) ++ v)
@@ -167,19 +175,20 @@ module _ (n : ℕ) (V : Lang Pieces) (read : (a : Pieces) (u : List ℕ) → V a
       let Y : Layout = after (G .gap) (λ b. item b (I .label) (I .inside) (after (H .gap) (λ d. mark d Comma y0))) in
       let J : join (join g (join i (join h (only-leaf (token comma))))) R ≡ join g (join i (join h k)) = join-assoc g (join i (join h (only-leaf (token comma)))) R ∙ ap (join g) (join-assoc i (join h (only-leaf (token comma))) R ∙ ap (join i) (join-assoc h (only-leaf (token comma)) R)) in
       let E : lay (join g (join i (join h k))) false ≡ Y =
-            G .laid (join i (join h k)) false ∙ after-same (G .gap) (lay (join i (join h k))) (λ b. item b (I .label) (I .inside) (after (H .gap) (λ d. mark d Comma y0)))
-              (λ b. I .laid (join h k) b ∙ ap (item b (I .label) (I .inside)) (H .laid k false)) in
+      G .laid (join i (join h k)) false ∙ after-same (G .gap) (lay (join i (join h k))) (λ b. item b (I .label) (I .inside) (after (H .gap) (λ d. mark d Comma y0)))
+      (λ b. I .laid (join h k) b ∙ ap (item b (I .label) (I .inside)) (H .laid k false)) in
       let l0 : levels (after (H .gap) (λ d. mark d Comma y0)) ≡ levels y0 = after-levels (H .gap) (λ d. mark d Comma y0) (levels y0) (λ b. refl) in
       let lv : levels Y ≡ max (raised (I .label) (levels (I .inside))) (levels (after (H .gap) (λ d. mark d Comma y0))) = after-levels (G .gap) (λ b. item b (I .label) (I .inside) (after (H .gap) (λ d. mark d Comma y0))) (max (raised (I .label) (levels (I .inside))) (levels (after (H .gap) (λ d. mark d Comma y0)))) (λ b. refl) in
       let dp = I .depth in
       let dm = m .depth in
       let B : (s ++ (t ++ (r ++ 44 ∷ []))) ++ v ≡ s ++ (t ++ (r ++ 44 ∷ v)) = append-assoc s (t ++ (r ++ 44 ∷ [])) v ∙ ap (λ y. s ++ y) (append-assoc t (r ++ 44 ∷ []) v ∙ ap (λ y. t ++ y) (append-assoc r (44 ∷ []) v)) in
-      subst (λ y. ItemsTo f n (join (join g (join i (join h y))) R) ((s ++ (t ++ (r ++ w))) ++ v)) (sym e) (subst (λ y. ItemsTo f n (join (join g (join i (join h (only-leaf (token comma))))) R) ((s ++ (t ++ (r ++ y))) ++ v)) (sym q) (subst (λ y. ItemsTo f n (join (join g (join i (join h (only-leaf (token comma))))) R) y) (sym B) (subst (λ y. ItemsTo f n y (s ++ (t ++ (r ++ 44 ∷ v)))) (sym J) (record
-        { items = subst (λ y. Items f y (s ++ (t ++ (r ++ 44 ∷ v)))) (sym E) (more (G .trivia) (I .is) (H .trivia) (m .items))
-        ; depth = subst (λ y. levels y ≤ n) (sym E) (omega arith)
-        ; printed = print-join g (join i (join h k)) ∙ ap (λ y. y ++ print (join i (join h k))) (G .printed)
+      subst (λ y. ItemsTo f n (join (join g (join i (join h y))) R) ((s ++ (t ++ (r ++ w))) ++ v)) (sym e) (subst (λ y. ItemsTo f n (join (join g (join i (join h (only-leaf (token comma))))) R) ((s ++ (t ++ (r ++ y))) ++ v)) (sym q) (subst (λ y. ItemsTo f n (join (join g (join i (join h (only-leaf (token comma))))) R) y) (sym B) (subst (λ y. ItemsTo f n y (s ++ (t ++ (r ++ 44 ∷ v)))) (sym J) (record {
+        items = subst (λ y. Items f y (s ++ (t ++ (r ++ 44 ∷ v)))) (sym E) (more (G .trivia) (I .is) (H .trivia) (m .items));
+        depth = subst (λ y. levels y ≤ n) (sym E) (omega arith);
+        printed = print-join g (join i (join h k)) ∙ ap (λ y. y ++ print (join i (join h k))) (G .printed)
             ∙ ap (λ y. s ++ y) (print-join i (join h k) ∙ ap (λ y. y ++ print (join h k)) (I .printed)
-              ∙ ap (λ y. t ++ y) (print-join h k ∙ ap (λ y. y ++ 44 ∷ print R) (H .printed) ∙ ap (λ y. r ++ 44 ∷ y) (m .printed))) }))))
+            ∙ ap (λ y. t ++ y) (print-join h k ∙ ap (λ y. y ++ 44 ∷ print R) (H .printed) ∙ ap (λ y. r ++ 44 ∷ y) (m .printed)));
+      }))))
 
   final-to : (f : Frame) (c : Pieces) (u : List ℕ) → TurnL V f (inr c) u → ItemsTo f n c u
   final-to f c u l = (let m = stops (TriviaL false) (λ x u. CloseL f x u ⊎ FromItemL V f x u) c u l in
@@ -191,8 +200,8 @@ module _ (n : ℕ) (V : Lang Pieces) (read : (a : Pieces) (u : List ℕ) → V a
           let p = stops (ItemL V f) (AfterItemL f) d w k in
           let q = stops (TriviaL false) (EndL f) (p .d) (p .w) (p .snd) in
           subst (λ y. ItemsTo f n (join a y) (v ++ w)) (ap (join (p .a)) (q .joined) ∙ p .joined)
-            (subst (λ y. ItemsTo f n (join a (join (p .a) (join (q .a) (q .d)))) (v ++ y)) (sym (p .bytes ∙ ap (λ y. p .v ++ y) (q .bytes)))
-              (last-to f a (p .a) (q .a) (q .d) v (p .v) (q .v) (q .w) t (p .fst) (q .fst) (q .snd)))
+          (subst (λ y. ItemsTo f n (join a (join (p .a) (join (q .a) (q .d)))) (v ++ y)) (sym (p .bytes ∙ ap (λ y. p .v ++ y) (q .bytes)))
+          (last-to f a (p .a) (q .a) (q .d) v (p .v) (q .v) (q .w) t (p .fst) (q .fst) (q .snd)))
 
   turn-to : (f : Frame) (c R : Pieces) (u v : List ℕ) → TurnL V f (inl c) u → ItemsTo f n R v → ItemsTo f n (join c R) (u ++ v)
   turn-to f c R u v l m = (let p = goes (TriviaL false) (λ x u. CloseL f x u ⊎ FromItemL V f x u) c u l in
@@ -204,8 +213,8 @@ module _ (n : ℕ) (V : Lang Pieces) (read : (a : Pieces) (u : List ℕ) → V a
           let p = goes (ItemL V f) (AfterItemL f) d w k in
           let q = goes (TriviaL false) (EndL f) (p .d) (p .w) (p .snd) in
           subst (λ y. ItemsTo f n (join (join a y) R) ((x ++ w) ++ v)) (ap (join (p .a)) (q .joined) ∙ p .joined)
-            (subst (λ y. ItemsTo f n (join (join a (join (p .a) (join (q .a) (q .d)))) R) ((x ++ y) ++ v)) (sym (p .bytes ∙ ap (λ y. p .v ++ y) (q .bytes)))
-              (more-to f a (p .a) (q .a) (q .d) R x (p .v) (q .v) (q .w) v t (p .fst) (q .fst) (q .snd) m))
+          (subst (λ y. ItemsTo f n (join (join a (join (p .a) (join (q .a) (q .d)))) R) ((x ++ y) ++ v)) (sym (p .bytes ∙ ap (λ y. p .v ++ y) (q .bytes)))
+          (more-to f a (p .a) (q .a) (q .d) R x (p .v) (q .v) (q .w) v t (p .fst) (q .fst) (q .snd) m))
 
   items-to : (f : Frame) (xs : List Pieces) (c : Pieces) (u : List ℕ) → iterate (TurnL V f) (λ _. []) xs c u → ItemsTo f n (joins xs c) u
   items-to f [] c u l = final-to f c u l
@@ -217,9 +226,9 @@ module _ (n : ℕ) (V : Lang Pieces) (read : (a : Pieces) (u : List ℕ) → V a
     where
       go : (f : Frame) → ItemsTo f n x1 u1 → Reading Value (suc n) (box (boxOf f) (leaf (token (openToken f)) x1) end) (tokenByte (openToken f) ∷ u1)
       go brackets m = (let d = m .depth in record
-        { label = Array; inside = mark false Open (lay x1 false); is = array (m .items); laid = λ r b. refl; depth = omega arith; printed = append-nil (91 ∷ print x1) ∙ ap (λ y. 91 ∷ y) (m .printed) })
+          { label = Array; inside = mark false Open (lay x1 false); is = array (m .items); laid = λ r b. refl; depth = omega arith; printed = append-nil (91 ∷ print x1) ∙ ap (λ y. 91 ∷ y) (m .printed) })
       go braces m = (let d = m .depth in record
-        { label = Object; inside = mark false Open (lay x1 false); is = object (m .items); laid = λ r b. refl; depth = omega arith; printed = append-nil (123 ∷ print x1) ∙ ap (λ y. 123 ∷ y) (m .printed) })
+          { label = Object; inside = mark false Open (lay x1 false); is = object (m .items); laid = λ r b. refl; depth = omega arith; printed = append-nil (123 ∷ print x1) ∙ ap (λ y. 123 ∷ y) (m .printed) })
 
 pub value-to : (n : ℕ) (a : Pieces) (u : List ℕ) → ValueL n a u → Reading Value n a u
 value-to zero a u (inl l) = absurd l

@@ -43,20 +43,48 @@ module _ (n : ℕ) (V : Lang Pieces) (from : (l : Label) (k : Layout) (u : List 
       let body : Pieces = leaf (name (quoted t)) (join y0 (leaf (token colon) (join r0 r1))) in
       let ins : Layout = mark false Name (after g (λ b. mark b Colon (after h (λ d. item d l k (stop false))))) in
       let le : lay body false ≡ ins =
-            ap (mark false Name) (G .laid (leaf (token colon) (join r0 r1)) false
-              ∙ after-same g (lay (leaf (token colon) (join r0 r1))) (λ b. mark b Colon (after h (λ d. item d l k (stop false))))
-                  (λ b. ap (mark b Colon) (H .laid r1 false ∙ after-same h (lay r1) (λ d. item d l k (stop false)) (λ d. ap (λ y. lay y d) (sym (join-end r1)) ∙ L .laid end d)))) in
-      record
-        { pieces = box property body end
-        ; is = ( body, refl
-               , ( (only-leaf (name (quoted t)), join y0 (leaf (token colon) (join r0 r1))), refl
-                 , ( quoted t, s ++ 58 ∷ (r ++ u), refl, (refl, (t, refl, ms))
-                   , ( (y0, leaf (token colon) (join r0 r1)), refl
-                     , ( s, 58 ∷ (r ++ u), refl, cut-is false G
-                       , ( (only-leaf (token colon), join r0 r1), refl
-                         , ( 58 ∷ [], r ++ u, refl, (refl, refl)
-                           , ((r0, r1), refl, (r, u, refl, cut-is false H, L .is)))))))))
-        ; laid = λ z b. ap (λ y. item b (Member y) (lay body false) (lay z false)) (inner-quoted t) ∙ ap (λ y. item b (Member t) y (lay z false)) le }
+      ap (mark false Name) (G .laid (leaf (token colon) (join r0 r1)) false
+      ∙ after-same g (lay (leaf (token colon) (join r0 r1))) (λ b. mark b Colon (after h (λ d. item d l k (stop false))))
+      (λ b. ap (mark b Colon) (H .laid r1 false ∙ after-same h (lay r1) (λ d. item d l k (stop false)) (λ d. ap (λ y. lay y d) (sym (join-end r1)) ∙ L .laid end d)))) in
+      record {
+        pieces = box property body end;
+        is = (
+          body,
+          refl,
+          (
+            (only-leaf (name (quoted t)), join y0 (leaf (token colon) (join r0 r1))),
+            refl,
+            (
+              quoted t,
+              s ++ 58 ∷ (r ++ u),
+              refl,
+              (refl, (t, refl, ms)),
+              (
+                (y0, leaf (token colon) (join r0 r1)),
+                refl,
+                (
+                  s,
+                  58 ∷ (r ++ u),
+                  refl,
+                  cut-is false G,
+                  (
+                    (only-leaf (token colon), join r0 r1),
+                    refl,
+                    (
+                      58 ∷ [],
+                      r ++ u,
+                      refl,
+                      (refl, refl),
+                      ((r0, r1), refl, (r, u, refl, cut-is false H, L .is)),
+                    ),
+                  ),
+                ),
+              ),
+            ),
+          ),
+        );
+        laid = λ z b. ap (λ y. item b (Member y) (lay body false) (lay z false)) (inner-quoted t) ∙ ap (λ y. item b (Member t) y (lay z false)) le;
+      }
 
   member-levels : (g h : Between) (l : Label) (k : Layout) → levels (mark false Name (after g (λ b. mark b Colon (after h (λ d. item d l k (stop false)))))) ≡ max (raised l (levels k)) 0
   member-levels g h l k =
@@ -74,11 +102,12 @@ module _ (n : ℕ) (V : Lang Pieces) (from : (l : Label) (k : Layout) (u : List 
   close-from : {f : Frame} {g : Between} {s : List ℕ} → Cut false g s → BackItems V f (after g shut) (s ++ closer f ∷ [])
   close-from {f = f} {g = g} {s = s} G =
       let k : Pieces = only-leaf (token (closeToken f)) in
-      record
-        { turns = []
-        ; stop = join (joins (G .turns) (G .stop)) k
-        ; is = ((joins (G .turns) (G .stop), inr k), refl, (s, closer f ∷ [], refl, cut-is false G, inl (k, refl, (refl, end-bytes f))))
-        ; laid = G .laid k false ∙ after-same g (lay k) shut (closing f) }
+      record {
+        turns = [];
+        stop = join (joins (G .turns) (G .stop)) k;
+        is = ((joins (G .turns) (G .stop), inr k), refl, (s, closer f ∷ [], refl, cut-is false G, inl (k, refl, (refl, end-bytes f))));
+        laid = G .laid k false ∙ after-same g (lay k) shut (closing f);
+      }
 
   last-from : {f : Frame} {g h : Between} {l : Label} {k : Layout} {s t r : List ℕ} → Cut false g s → Back (ItemL V f) l k t → Cut false h r → BackItems V f (after g (λ b. item b l k (after h shut))) (s ++ (t ++ (r ++ closer f ∷ [])))
   last-from {f = f} {g = g} {h = h} {l = l} {k = k} {s = s} {t = t} {r = r} G I H =
@@ -86,14 +115,23 @@ module _ (n : ℕ) (V : Lang Pieces) (from : (l : Label) (k : Layout) (u : List 
       let h0 : Pieces = joins (H .turns) (H .stop) in
       let i0 : Pieces = I .pieces in
       let c : Pieces = only-leaf (token (closeToken f)) in
-      record
-        { turns = []
-        ; stop = join g0 (join i0 (join h0 c))
-        ; is = ( (g0, inr (join i0 (join h0 c))), refl
-               , (s, t ++ (r ++ closer f ∷ []), refl, cut-is false G
-                 , inr ((i0, inr (join h0 c)), refl, (t, r ++ closer f ∷ [], refl, I .is, ((h0, inr c), refl, (r, closer f ∷ [], refl, cut-is false H, (refl, end-bytes f)))))))
-        ; laid = G .laid (join i0 (join h0 c)) false ∙ after-same g (lay (join i0 (join h0 c))) (λ b. item b l k (after h shut))
-                   (λ b. I .laid (join h0 c) b ∙ ap (item b l k) (H .laid c false ∙ after-same h (lay c) shut (closing f))) }
+      record {
+        turns = [];
+        stop = join g0 (join i0 (join h0 c));
+        is = (
+          (g0, inr (join i0 (join h0 c))),
+          refl,
+          (
+            s,
+            t ++ (r ++ closer f ∷ []),
+            refl,
+            cut-is false G,
+            inr ((i0, inr (join h0 c)), refl, (t, r ++ closer f ∷ [], refl, I .is, ((h0, inr c), refl, (r, closer f ∷ [], refl, cut-is false H, (refl, end-bytes f))))),
+          ),
+        );
+        laid = G .laid (join i0 (join h0 c)) false ∙ after-same g (lay (join i0 (join h0 c))) (λ b. item b l k (after h shut))
+            (λ b. I .laid (join h0 c) b ∙ ap (item b l k) (H .laid c false ∙ after-same h (lay c) shut (closing f)));
+      }
 
   more-from : {f : Frame} {g h : Between} {l : Label} {k y : Layout} {s t r u : List ℕ} → Cut false g s → Back (ItemL V f) l k t → Cut false h r → BackItems V f y u → BackItems V f (after g (λ b. item b l k (after h (λ d. mark d Comma y)))) (s ++ (t ++ (r ++ 44 ∷ u)))
   more-from {f = f} {g = g} {h = h} {l = l} {k = k} {y = y} {s = s} {t = t} {r = r} {u = u} G I H R =
@@ -103,17 +141,30 @@ module _ (n : ℕ) (V : Lang Pieces) (from : (l : Label) (k : Layout) (u : List 
       let c : Pieces = only-leaf (token comma) in
       let q : Pieces = joins (R .turns) (R .stop) in
       let J : join (join g0 (join i0 (join h0 c))) q ≡ join g0 (join i0 (join h0 (leaf (token comma) q))) = join-assoc g0 (join i0 (join h0 c)) q ∙ ap (join g0) (join-assoc i0 (join h0 c) q ∙ ap (join i0) (join-assoc h0 c q)) in
-      record
-        { turns = join g0 (join i0 (join h0 c)) ∷ R .turns
-        ; stop = R .stop
-        ; is = ( s ++ (t ++ (r ++ 44 ∷ [])), u
-               , sym (append-assoc s (t ++ (r ++ 44 ∷ [])) u ∙ ap (λ z. s ++ z) (append-assoc t (r ++ 44 ∷ []) u ∙ ap (λ z. t ++ z) (append-assoc r (44 ∷ []) u)))
-               , ( (g0, inl (join i0 (join h0 c))), refl
-                 , (s, t ++ (r ++ 44 ∷ []), refl, cut-is false G
-                   , inr ((i0, inl (join h0 c)), refl, (t, r ++ 44 ∷ [], refl, I .is, ((h0, inl c), refl, (r, 44 ∷ [], refl, cut-is false H, (refl, refl)))))))
-               , free-none u, R .is)
-        ; laid = ap (λ z. lay z false) J ∙ G .laid (join i0 (join h0 (leaf (token comma) q))) false ∙ after-same g (lay (join i0 (join h0 (leaf (token comma) q)))) (λ b. item b l k (after h (λ d. mark d Comma y)))
-                   (λ b. I .laid (join h0 (leaf (token comma) q)) b ∙ ap (item b l k) (H .laid (leaf (token comma) q) false ∙ after-same h (lay (leaf (token comma) q)) (λ d. mark d Comma y) (λ d. ap (mark d Comma) (R .laid)))) }
+      record {
+        turns = join g0 (join i0 (join h0 c)) ∷ R .turns;
+        stop = R .stop;
+        is = (
+          s ++ (t ++ (r ++ 44 ∷ [])),
+          u,
+          sym (append-assoc s (t ++ (r ++ 44 ∷ [])) u ∙ ap (λ z. s ++ z) (append-assoc t (r ++ 44 ∷ []) u ∙ ap (λ z. t ++ z) (append-assoc r (44 ∷ []) u))),
+          (
+            (g0, inl (join i0 (join h0 c))),
+            refl,
+            (
+              s,
+              t ++ (r ++ 44 ∷ []),
+              refl,
+              cut-is false G,
+              inr ((i0, inl (join h0 c)), refl, (t, r ++ 44 ∷ [], refl, I .is, ((h0, inl c), refl, (r, 44 ∷ [], refl, cut-is false H, (refl, refl))))),
+            ),
+          ),
+          free-none u,
+          R .is,
+        );
+        laid = ap (λ z. lay z false) J ∙ G .laid (join i0 (join h0 (leaf (token comma) q))) false ∙ after-same g (lay (join i0 (join h0 (leaf (token comma) q)))) (λ b. item b l k (after h (λ d. mark d Comma y)))
+            (λ b. I .laid (join h0 (leaf (token comma) q)) b ∙ ap (item b l k) (H .laid (leaf (token comma) q) false ∙ after-same h (lay (leaf (token comma) q)) (λ d. mark d Comma y) (λ d. ap (mark d Comma) (R .laid))));
+      }
 
   items-from : {f : Frame} {y : Layout} {u : List ℕ} → Items f y u → levels y ≤ n → BackItems V f y u
   items-from (close t) d = close-from (cut false t)
@@ -136,17 +187,19 @@ value-from zero _ _ _ (object x) d = absurd (omega arith)
 value-from (suc n) _ _ _ (array {u = u} x) d =
     let m = items-from n (ValueL n) (value-from n) x (omega arith) in
     let q : Pieces = joins (m .turns) (m .stop) in
-    record
-      { pieces = box array-box (leaf (token open-array) q) end
-      ; is = inl (inl (leaf (token open-array) q, refl, ((only-leaf (token open-array), q), refl, (91 ∷ [], u, refl, (refl, refl), ((m .turns, m .stop), refl, m .is)))))
-      ; laid = λ r b. ap (λ y. item b Array (mark false Open y) (lay r false)) (m .laid) }
+    record {
+      pieces = box array-box (leaf (token open-array) q) end;
+      is = inl (inl (leaf (token open-array) q, refl, ((only-leaf (token open-array), q), refl, (91 ∷ [], u, refl, (refl, refl), ((m .turns, m .stop), refl, m .is)))));
+      laid = λ r b. ap (λ y. item b Array (mark false Open y) (lay r false)) (m .laid);
+    }
 value-from (suc n) _ _ _ (object {u = u} x) d =
     let m = items-from n (ValueL n) (value-from n) x (omega arith) in
     let q : Pieces = joins (m .turns) (m .stop) in
-    record
-      { pieces = box object-box (leaf (token open-object) q) end
-      ; is = inl (inr (leaf (token open-object) q, refl, ((only-leaf (token open-object), q), refl, (123 ∷ [], u, refl, (refl, refl), ((m .turns, m .stop), refl, m .is)))))
-      ; laid = λ r b. ap (λ y. item b Object (mark false Open y) (lay r false)) (m .laid) }
+    record {
+      pieces = box object-box (leaf (token open-object) q) end;
+      is = inl (inr (leaf (token open-object) q, refl, ((only-leaf (token open-object), q), refl, (123 ∷ [], u, refl, (refl, refl), ((m .turns, m .stop), refl, m .is)))));
+      laid = λ r b. ap (λ y. item b Object (mark false Open y) (lay r false)) (m .laid);
+    }
 
 -- whole texts, as pieces
 abbrev pub BodyL : ℕ → Lang Pieces
@@ -243,9 +296,10 @@ value-open n a [] v l f = false≢true (value-laws n .null-ok a l)
 value-open n a (b ∷ u) v l f = true≢false (sym (covers-ok OpenMore ValueFirst refl b (value-laws n .first-ok a b u l)) ∙ f)
 
 front-trivia : (n : ℕ) (x a : Pieces) (u w v : List ℕ) → TriviaL true x u → Free (trail x) (w ++ v) → ValueL n a w → TriviaL false x u
-front-trivia n x a u w v ((xs, c), e, l) f k = elim (close-run xs c u l)
-    [ inl r ↦ ((xs, c), e, r)
-    | inr z ↦ absurd (value-open n a w v k (subst (λ y. Free y (w ++ v)) (ap trail (sym e) ∙ trail-run true xs c u l ∙ z) f)) ]
+front-trivia n x a u w v ((xs, c), e, l) f k = elim (close-run xs c u l) [
+  | inl r ↦ ((xs, c), e, r)
+  | inr z ↦ absurd (value-open n a w v k (subst (λ y. Free y (w ++ v)) (ap trail (sym e) ∙ trail-run true xs c u l ∙ z) f))
+]
 
 pub record TextTo (n : ℕ) (a : Pieces) (u : List ℕ) : Type 0 where
   pub sentence : Sentence (lay a false) u
@@ -260,10 +314,11 @@ nothing-to n x u t =
     let G = trivia-to true x u t in
     let E : lay (join x end) false ≡ after (G .gap) stop = G .laid end false in
     let lv = stop-levels (G .gap) in
-    subst (TextTo n (join x end)) (sym (append-nil u)) (record
-      { sentence = subst (λ y. Sentence y u) (sym E) (nothing (G .trivia))
-      ; depth = subst (λ y. levels y ≤ n) (sym E) (omega arith)
-      ; printed = ap print (join-end x) ∙ G .printed })
+    subst (TextTo n (join x end)) (sym (append-nil u)) (record {
+      sentence = subst (λ y. Sentence y u) (sym E) (nothing (G .trivia));
+      depth = subst (λ y. levels y ≤ n) (sym E) (omega arith);
+      printed = ap print (join-end x) ∙ G .printed;
+    })
 
 something-to : (n : ℕ) (x a z : Pieces) (s t r : List ℕ) → TriviaL false x s → ValueL n a t → TriviaL true z r → TextTo n (join x (join a z)) (s ++ (t ++ r))
 something-to n x a z s t r tg v th =
@@ -272,15 +327,16 @@ something-to n x a z s t r tg v th =
     let I = value-to n a t v in
     let Y : Layout = after (G .gap) (λ b. item b (I .label) (I .inside) (after (H .gap) stop)) in
     let E : lay (join x (join a z)) false ≡ Y =
-          G .laid (join a z) false ∙ after-same (G .gap) (lay (join a z)) (λ b. item b (I .label) (I .inside) (after (H .gap) stop))
-            (λ b. I .laid z b ∙ ap (item b (I .label) (I .inside)) (ap (λ y. lay y false) (sym (join-end z)) ∙ H .laid end false)) in
+    G .laid (join a z) false ∙ after-same (G .gap) (lay (join a z)) (λ b. item b (I .label) (I .inside) (after (H .gap) stop))
+    (λ b. I .laid z b ∙ ap (item b (I .label) (I .inside)) (ap (λ y. lay y false) (sym (join-end z)) ∙ H .laid end false)) in
     let l0 = stop-levels (H .gap) in
     let lv : levels Y ≡ max (raised (I .label) (levels (I .inside))) (levels (after (H .gap) stop)) = after-levels (G .gap) (λ b. item b (I .label) (I .inside) (after (H .gap) stop)) (max (raised (I .label) (levels (I .inside))) (levels (after (H .gap) stop))) (λ b. refl) in
     let dp = I .depth in
-    record
-      { sentence = subst (λ y. Sentence y (s ++ (t ++ r))) (sym E) (something (G .trivia) (I .is) (H .trivia))
-      ; depth = subst (λ y. levels y ≤ n) (sym E) (omega arith)
-      ; printed = print-join x (join a z) ∙ ap (λ y. y ++ print (join a z)) (G .printed) ∙ ap (λ y. s ++ y) (print-join a z ∙ ap (λ y. y ++ print z) (I .printed) ∙ ap (λ y. t ++ y) (H .printed)) }
+    record {
+      sentence = subst (λ y. Sentence y (s ++ (t ++ r))) (sym E) (something (G .trivia) (I .is) (H .trivia));
+      depth = subst (λ y. levels y ≤ n) (sym E) (omega arith);
+      printed = print-join x (join a z) ∙ ap (λ y. y ++ print (join a z)) (G .printed) ∙ ap (λ y. s ++ y) (print-join a z ∙ ap (λ y. y ++ print z) (I .printed) ∙ ap (λ y. t ++ y) (H .printed));
+    }
 
 pub text-to : (n : ℕ) (a : Pieces) (u : List ℕ) → TextL n a u → TextTo n a u
 text-to n a u ((x0, x1), j, (u0, u1, e, t, f, inl ((v, z), k, (w0, w1, d, l, m)))) =
@@ -300,8 +356,9 @@ text-from n (something {g = g} {h = h} {l = l} {k = k} {s = s} {t = t} {r = r} t
     let I = value-from n l k t v (omega arith) in
     let x : Pieces = joins (G .turns) (G .stop) in
     let z : Pieces = joins (H .turns) (H .stop) in
-    let f : Free (trail x) (t ++ r) = subst (λ y. Free y (t ++ r)) (sym (trail-run false (G .turns) (G .stop) s (G .run) ∙ inner-trail (G .turns) (G .stop) s (G .run))) (value-first n Gap (apart-ok ValueFirst Gap refl) (I .pieces) t r (I .is)) in
-    ( join x (join (I .pieces) z)
-    , ((x, join (I .pieces) z), refl, (s, t ++ r, refl, ((G .turns, G .stop), refl, open-run (G .turns) (G .stop) s (G .run)), f, inl ((I .pieces, z), refl, (t, r, refl, I .is, cut-is true H))))
-    , G .laid (join (I .pieces) z) false ∙ after-same g (lay (join (I .pieces) z)) (λ b. item b l k (after h stop))
-        (λ b. I .laid z b ∙ ap (item b l k) (ap (λ y. lay y false) (sym (join-end z)) ∙ H .laid end false)))
+    let f : Free (trail x) (t ++ r) = subst (λ y. Free y (t ++ r)) (sym (trail-run false (G .turns) (G .stop) s (G .run) ∙ inner-trail (G .turns) (G .stop) s (G .run))) (value-first n Gap (apart-ok ValueFirst Gap refl) (I .pieces) t r (I .is)) in (
+      join x (join (I .pieces) z),
+      ((x, join (I .pieces) z), refl, (s, t ++ r, refl, ((G .turns, G .stop), refl, open-run (G .turns) (G .stop) s (G .run)), f, inl ((I .pieces, z), refl, (t, r, refl, I .is, cut-is true H)))),
+      G .laid (join (I .pieces) z) false ∙ after-same g (lay (join (I .pieces) z)) (λ b. item b l k (after h stop))
+          (λ b. I .laid z b ∙ ap (item b l k) (ap (λ y. lay y false) (sym (join-end z)) ∙ H .laid end false)),
+    )

@@ -68,8 +68,8 @@ fine-run c (b ∷ t) = go (within c b) refl (fine-run c t)
 pub fine-space : (s : List ℕ) → Fine wide (spaceP s)
 fine-space s =
     fine-map (λ t. only-leaf (whitespace t)) wide (catP (byteP Blank) (runP Blank) s)
-      (fine-map (λ x. x .0 ++ x .1) (λ _. Blank) (seqP (byteP Blank) (runP Blank) s)
-        (fine-bind (runP Blank) (λ _. Blank) (byteP Blank s) (λ a t. fine-run Blank t)))
+    (fine-map (λ x. x .0 ++ x .1) (λ _. Blank) (seqP (byteP Blank) (runP Blank) s)
+    (fine-bind (runP Blank) (λ _. Blank) (byteP Blank s) (λ a t. fine-run Blank t)))
 
 -- line breaks
 abbrev pub NewlineL : Lang Pieces
@@ -145,9 +145,9 @@ fine-maybe a s = fine-pick (starts (only 10) s) (oneP (only 10)) epsP s (λ x. w
 pub fine-newline : (s : List ℕ) → Fine wide (newlineP s)
 fine-newline s =
     fine-map either wide (altP (only 10) (mapP (λ _. only-leaf (newline line-feed)) (oneP (only 10))) returnP s)
-      (fine-pick (starts (only 10) s) (mapP (λ _. only-leaf (newline line-feed)) (oneP (only 10))) returnP s (λ x. wide (either x))
-        (λ e. fine-map (λ _. only-leaf (newline line-feed)) wide (oneP (only 10) s) (fine-any (oneP (only 10) s)))
-        (λ e. fine-map returned wide (seqP (oneP (only 13)) maybeFeed s) (fine-bind maybeFeed (λ x. wide (returned x)) (oneP (only 13) s) fine-maybe)))
+    (fine-pick (starts (only 10) s) (mapP (λ _. only-leaf (newline line-feed)) (oneP (only 10))) returnP s (λ x. wide (either x))
+    (λ e. fine-map (λ _. only-leaf (newline line-feed)) wide (oneP (only 10) s) (fine-any (oneP (only 10) s)))
+    (λ e. fine-map returned wide (seqP (oneP (only 13)) maybeFeed s) (fine-bind maybeFeed (λ x. wide (returned x)) (oneP (only 13) s) fine-maybe)))
 
 -- what ends a line comment
 abbrev LineEndL : Bool → Lang (Pieces ⊎ Unit {0})
@@ -165,17 +165,20 @@ endExt (inr e) = LineEnd
 line-end-last : Laws (LineEndL true) (lineEndP true) LineEnd endNull endExt
 line-end-last = Rattle.grammar.proofs.Laws.say-laws (altL NewlineL epsL) (LineEndL true) (lineEndP true) LineEnd endNull endExt
     (wide-laws (altL NewlineL epsL) (lineEndP true) LineEnd _ endNull _ endExt
-      (alt-laws NewlineL newlineP LineEnd (λ _. false) wide newline-laws epsL epsP [] (λ _. true) (λ _. []) eps-laws (λ a. refl) refl) nul ext) to from
+    (alt-laws NewlineL newlineP LineEnd (λ _. false) wide newline-laws epsL epsP [] (λ _. true) (λ _. []) eps-laws (λ a. refl) refl) nul ext) to from
   where
     nul : (x : Pieces ⊎ Unit {0}) → alt-null NewlineL newlineP LineEnd (λ _. false) wide newline-laws epsL epsP [] (λ _. true) (λ _. []) eps-laws x ≡ true → endNull x ≡ true
     nul (inl a) e = e
     nul (inr b) e = refl
+
     ext : (x : Pieces ⊎ Unit {0}) (u t : List ℕ) → altL NewlineL epsL x u → Free (endExt x) t → Free (alt-ext NewlineL newlineP LineEnd (λ _. false) wide newline-laws epsL epsP [] (λ _. true) (λ _. []) eps-laws x) t
     ext (inl a) u t l f = f
     ext (inr b) u t l f = f
+
     to : (x : Pieces ⊎ Unit {0}) (u : List ℕ) → altL NewlineL epsL x u → LineEndL true x u
     to (inl a) u l = l
     to (inr b) u l = (refl, l)
+
     from : (x : Pieces ⊎ Unit {0}) (u : List ℕ) → LineEndL true x u → altL NewlineL epsL x u
     from (inl a) u l = l
     from (inr b) u l = l .1
@@ -237,8 +240,8 @@ some-end last = (line-feed, refl, refl)
 line-laws : (last : Bool) → Laws (LineL last) (lineP last) (only 47) (λ _. false) lineExt
 line-laws last = wide-laws (LineL last) (lineP last) (only 47) _ (λ _. false) _ lineExt
     (seq-laws (oneL (only 47)) (oneP (only 47)) (only 47) (λ _. false) (λ _. []) (one-laws (only 47) 47 refl) (seqL (Of (Many (Char InLine))) (LineEndL last)) (seqP (charsP InLine) (lineEndP last)) ((InLine ++ MultiFirst) ++ LineEnd) _ _
-      (seq-laws (Of (Many (Char InLine))) (charsP InLine) (InLine ++ MultiFirst) (λ _. true) (λ _. InLine ++ MultiFirst) in-line (LineEndL last) (lineEndP last) LineEnd endNull endExt (line-end-laws last) true (λ a h. refl) (λ a. refl) (inl (only-leaf (newline line-feed))) (10 ∷ []) (some-end last))
-      false (λ a h. h) (λ a. refl) ([], inl (only-leaf (newline line-feed))) (10 ∷ []) ([], 10 ∷ [], refl, (refl, none), some-end last))
+    (seq-laws (Of (Many (Char InLine))) (charsP InLine) (InLine ++ MultiFirst) (λ _. true) (λ _. InLine ++ MultiFirst) in-line (LineEndL last) (lineEndP last) LineEnd endNull endExt (line-end-laws last) true (λ a h. refl) (λ a. refl) (inl (only-leaf (newline line-feed))) (10 ∷ []) (some-end last))
+    false (λ a h. h) (λ a. refl) ([], inl (only-leaf (newline line-feed))) (10 ∷ []) ([], 10 ∷ [], refl, (refl, none), some-end last))
     (λ x e. e) ext
   where
     ext : (x : ℕ × (List ℕ × (Pieces ⊎ Unit {0}))) (u t : List ℕ) → LineL last x u → Free (lineExt x) t → Free ((endExt (x .1 .1) ++ cond (endNull (x .1 .1)) (InLine ++ MultiFirst) []) ++ cond (true && endNull (x .1 .1)) [] []) t
@@ -268,6 +271,7 @@ rest-laws last = wide-laws (altL StarL (LineL last)) (altP (only 42) starP (line
     nul : (x : (ℕ × List ℕ) ⊎ (ℕ × (List ℕ × (Pieces ⊎ Unit {0})))) → alt-null StarL starP (only 42) (λ _. false) (λ _. []) star-laws (LineL last) (lineP last) (only 47) (λ _. false) lineExt (line-laws last) x ≡ true → false ≡ true
     nul (inl a) e = e
     nul (inr b) e = e
+
     ext : (x : (ℕ × List ℕ) ⊎ (ℕ × (List ℕ × (Pieces ⊎ Unit {0})))) (u t : List ℕ) → altL StarL (LineL last) x u → Free (restExt x) t → Free (alt-ext StarL starP (only 42) (λ _. false) (λ _. []) star-laws (LineL last) (lineP last) (only 47) (λ _. false) lineExt (line-laws last) x) t
     ext (inl a) u t l f = f
     ext (inr b) u t l f = free-both (lineExt b) [] t f (free-none t)
@@ -287,8 +291,8 @@ comment-to last (b, inr (c, (t, inl n))) u l =
     let k = m .4 in
     let f : b ∷ c ∷ t ≡ 47 ∷ 47 ∷ k .0 = ap (λ y. y ∷ c ∷ t) (is-only 47 b (l .3 .1)) ∙ ap (λ y. 47 ∷ y ∷ t) (is-only 47 c (m .3 .1)) ∙ ap (λ y. 47 ∷ 47 ∷ y) (k .3 .0) in
     a-line (47 ∷ 47 ∷ k .0) (k .1) n (ap (λ y. leaf (comment (Line y)) n) f)
-      (slash-of b (l .0) (l .1) u 47 (l .2) (l .3) ∙ ap (λ y. 47 ∷ y) (slash-of c (m .0) (m .1) (l .1) 47 (m .2) (m .3) ∙ ap (λ y. 47 ∷ y) (k .2)))
-      (line (k .3 .1)) (k .4)
+    (slash-of b (l .0) (l .1) u 47 (l .2) (l .3) ∙ ap (λ y. 47 ∷ y) (slash-of c (m .0) (m .1) (l .1) 47 (m .2) (m .3) ∙ ap (λ y. 47 ∷ y) (k .2)))
+    (line (k .3 .1)) (k .4)
 comment-to last (b, inr (c, (t, inr z))) u l =
     let m = l .4 in
     let k = m .4 in
@@ -300,19 +304,25 @@ abbrev RawOf : Bool → Pieces ⊎ Pieces → List ℕ → Type 0
 RawOf last a u = (x : ℕ × ((ℕ × List ℕ) ⊎ (ℕ × (List ℕ × (Pieces ⊎ Unit {0}))))) × (commentOf x ≡ a) × RawL last x u
 
 block-from : (last : Bool) (a : Pieces) {u : List ℕ} → a ≡ only-leaf (comment (Block u)) → BlockComment u → RawOf last (inl a) u
-block-from last a e (block {t = t} x y) =
-    ( (47, inl (42, t ++ 42 ∷ 47 ∷ [])), ap inl (sym e)
-    , (47 ∷ [], 42 ∷ (t ++ 42 ∷ 47 ∷ []), refl, (refl, refl), (42 ∷ [], t ++ 42 ∷ 47 ∷ [], refl, (refl, refl), record { inside = t; same = refl; bytes = refl; chars = x; shut = y })))
+block-from last a e (block {t = t} x y) = (
+  (47, inl (42, t ++ 42 ∷ 47 ∷ [])),
+  ap inl (sym e),
+  (47 ∷ [], 42 ∷ (t ++ 42 ∷ 47 ∷ []), refl, (refl, refl), (42 ∷ [], t ++ 42 ∷ 47 ∷ [], refl, (refl, refl), record { inside = t; same = refl; bytes = refl; chars = x; shut = y })),
+)
 
 line-from : (last : Bool) (a n : Pieces) (u v : List ℕ) {t : List ℕ} → a ≡ leaf (comment (Line t)) n → u ≡ t ++ v → LineComment t → NewlineL n v → RawOf last (inl a) u
-line-from last a n u v e f (line {t = t} x) z =
-    ( (47, inr (47, (t, inl n))), ap inl (sym e)
-    , (47 ∷ [], 47 ∷ (t ++ v), f, (refl, refl), (47 ∷ [], t ++ v, refl, (refl, refl), (t, v, refl, (refl, x), z))))
+line-from last a n u v e f (line {t = t} x) z = (
+  (47, inr (47, (t, inl n))),
+  ap inl (sym e),
+  (47 ∷ [], 47 ∷ (t ++ v), f, (refl, refl), (47 ∷ [], t ++ v, refl, (refl, refl), (t, v, refl, (refl, x), z))),
+)
 
 open-from : (last : Bool) (a : Pieces) {u : List ℕ} → last ≡ true → a ≡ only-leaf (comment (Line u)) → LineComment u → RawOf last (inr a) u
-open-from last a i e (line {t = t} x) =
-    ( (47, inr (47, (t, inr tt))), ap inr (sym e)
-    , (47 ∷ [], 47 ∷ t, refl, (refl, refl), (47 ∷ [], t, refl, (refl, refl), (t, [], sym (append-nil t), (refl, x), (i, refl)))))
+open-from last a i e (line {t = t} x) = (
+  (47, inr (47, (t, inr tt))),
+  ap inr (sym e),
+  (47 ∷ [], 47 ∷ t, refl, (refl, refl), (47 ∷ [], t, refl, (refl, refl), (t, [], sym (append-nil t), (refl, x), (i, refl)))),
+)
 
 closed-from : (last : Bool) (a : Pieces) {u : List ℕ} → ClosedL a u → RawOf last (inl a) u
 closed-from last a (a-block e x) = block-from last a e x
@@ -334,5 +344,5 @@ comment-free last (b, inr (c, (s, inr e))) u t l f = f
 pub comment-laws : (last : Bool) → Laws (CommentL last) (commentP last) (only 47) (λ _. false) unitExt
 comment-laws last = conv-laws commentOf (RawL last) (CommentL last) (seqP (oneP (only 47)) (altP (only 42) starP (lineP last))) (only 47) _ _
     (seq-laws (oneL (only 47)) (oneP (only 47)) (only 47) (λ _. false) (λ _. []) (one-laws (only 47) 47 refl) (altL StarL (LineL last)) (altP (only 42) starP (lineP last)) (only 42 ++ only 47) (λ _. false) restExt (rest-laws last) false (λ a h. h) (λ a. refl)
-      (inl (42, 42 ∷ 47 ∷ [])) (42 ∷ 42 ∷ 47 ∷ []) (42 ∷ [], 42 ∷ 47 ∷ [], refl, (refl, refl), some-body))
+    (inl (42, 42 ∷ 47 ∷ [])) (42 ∷ 42 ∷ 47 ∷ []) (42 ∷ [], 42 ∷ 47 ∷ [], refl, (refl, refl), some-body))
     (comment-to last) (comment-from last) (λ _. false) unitExt (λ x e. e) (comment-free last)

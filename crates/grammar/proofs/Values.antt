@@ -24,8 +24,8 @@ within-only b = or-left (leb b b && leb b b) false (and-from (leb b b) (leb b b)
 pub pair-laws : {A B C : Type 0} (op : A × B → C) (L : Lang A) (M : Lang B) (p : Parser A) (q : Parser B) (f g : Class) (nl ml : Bool) (E F : Class) → Laws L p f (λ _. nl) (λ _. E) → Laws M q g (λ _. ml) (λ _. F) → apart g E ≡ true → (c : B) (v : List ℕ) → M c v → Laws (mapL op (seqL L M)) (mapP op (seqP p q)) (f ++ cond nl g []) (λ _. nl && ml) (λ _. F ++ cond ml E [])
 pair-laws op L M p q f g nl ml E F h k d c v z =
     map-laws op (seqL L M) (seqP p q) (f ++ cond nl g []) (λ _. nl && ml) (λ _. F ++ cond ml E [])
-      (seq-laws L p f (λ _. nl) (λ _. E) h M q g (λ _. ml) (λ _. F) k nl (λ a e. e) (λ a. d) c v z)
-      (λ _. nl && ml) (λ _. F ++ cond ml E []) (λ a e. e) (λ a u t l y. y)
+    (seq-laws L p f (λ _. nl) (λ _. E) h M q g (λ _. ml) (λ _. F) k nl (λ a e. e) (λ a. d) c v z)
+    (λ _. nl && ml) (λ _. F ++ cond ml E []) (λ a e. e) (λ a u t l y. y)
 
 abbrev pub JoinL : Lang Pieces → Lang Pieces → Lang Pieces
 JoinL L M = mapL (λ x. join (x .0) (x .1)) (seqL L M)
@@ -97,8 +97,8 @@ scalar-laws =
     let h3 : Laws L3 p3 (only 116 ++ (only 102 ++ NumberFirst)) (λ _. false) (λ _. NumberMore) = choice-laws TrueL L4 trueP p4 (only 116) (only 102 ++ NumberFirst) (λ _. false) (λ _. NumberMore) (more TrueL trueP (only 116) (literal-laws (boolean true) 116 (114 ∷ 117 ∷ 101 ∷ []))) h4 refl (never L4 (only 116)) in
     let h2 : Laws L2 p2 (only 110 ++ (only 116 ++ (only 102 ++ NumberFirst))) (λ _. false) (λ _. NumberMore) = choice-laws NullL L3 nullP p3 (only 110) (only 116 ++ (only 102 ++ NumberFirst)) (λ _. false) (λ _. NumberMore) (more NullL nullP (only 110) (literal-laws null 110 (117 ∷ 108 ∷ 108 ∷ []))) h3 refl (never L3 (only 110)) in
     first-laws ScalarL scalarP (only 34 ++ (only 110 ++ (only 116 ++ (only 102 ++ NumberFirst)))) ScalarFirst (λ _. false) (λ _. NumberMore)
-      (choice-laws StringL L2 stringLeafP p2 (only 34) (only 110 ++ (only 116 ++ (only 102 ++ NumberFirst))) (λ _. false) (λ _. NumberMore) (more StringL stringLeafP (only 34) (leaf-laws string Quoted stringP (only 34) [] string-laws)) h2 refl (never L2 (only 34)))
-      refl
+    (choice-laws StringL L2 stringLeafP p2 (only 34) (only 110 ++ (only 116 ++ (only 102 ++ NumberFirst))) (λ _. false) (λ _. NumberMore) (more StringL stringLeafP (only 34) (leaf-laws string Quoted stringP (only 34) [] string-laws)) h2 refl (never L2 (only 34)))
+    refl
 
 -- a value, given those inside it
 abbrev pub ValueOf : Lang Pieces → Lang Pieces
@@ -167,7 +167,7 @@ module _ (V : Lang Pieces) (v : Parser Pieces) (h : ValueLaws V v) (c : Pieces) 
   pub member-laws : Laws (MemberL V) (memberP v) (only 34) (λ _. false) (λ _. NumberMore)
   member-laws = map-laws (λ c. box property c end) (InsideL V) (thenP nameP (thenP (triviaP false) (thenP (tokenP colon) (thenP (triviaP false) v)))) (only 34) (λ _. false) (λ _. NumberMore)
       (pair-laws (λ x. join (x .0) (x .1)) NameL (JoinL (TriviaL false) (JoinL (TokenL colon) (JoinL (TriviaL false) V))) nameP (thenP (triviaP false) (thenP (tokenP colon) (thenP (triviaP false) v))) (only 34) (Gap ++ only 58) false false [] NumberMore (leaf-laws name Quoted stringP (only 34) [] string-laws) after-name refl
-        (leaf (token colon) c) (58 ∷ w) ((end, leaf (token colon) c), refl, ([], 58 ∷ w, refl, no-trivia, ((only-leaf (token colon), c), refl, (58 ∷ [], w, refl, (refl, refl), ((end, c), refl, ([], w, refl, no-trivia, z)))))))
+      (leaf (token colon) c) (58 ∷ w) ((end, leaf (token colon) c), refl, ([], 58 ∷ w, refl, no-trivia, ((only-leaf (token colon), c), refl, (58 ∷ [], w, refl, (refl, refl), ((end, c), refl, ([], w, refl, no-trivia, z)))))))
       (λ _. false) (λ _. NumberMore) (λ a e. e) (λ a u t l f. f)
 
   abbrev pub itemFirst : Frame → Class
@@ -196,6 +196,7 @@ module _ (V : Lang Pieces) (v : Parser Pieces) (h : ValueLaws V v) (c : Pieces) 
       nul : (x : Pieces ⊎ Pieces) → Rattle.grammar.proofs.Laws.alt-null (TokenL comma) (tokenP comma) (only 44) (λ _. false) (λ _. []) (token-laws comma) (TokenL (closeToken f)) (tokenP (closeToken f)) (only (closer f)) (λ _. false) (λ _. []) (close-laws f) x ≡ true → false ≡ true
       nul (inl a) e = e
       nul (inr a) e = e
+
       free : (x : Pieces ⊎ Pieces) (t : List ℕ) → Free (Rattle.grammar.proofs.Laws.alt-ext (TokenL comma) (tokenP comma) (only 44) (λ _. false) (λ _. []) (token-laws comma) (TokenL (closeToken f)) (tokenP (closeToken f)) (only (closer f)) (λ _. false) (λ _. []) (close-laws f) x) t
       free (inl a) t = free-none t
       free (inr a) t = free-none t
@@ -258,9 +259,9 @@ module _ (V : Lang Pieces) (v : Parser Pieces) (h : ValueLaws V v) (c : Pieces) 
   container-laws : (f : Frame) → Laws (ContainerL V f) (containerP f v) (only (opener f)) (λ _. false) (λ _. [])
   container-laws f = subst (λ y. Laws (ContainerL V f) (containerP f v) y (λ _. false) (λ _. [])) (opens f)
       (map-laws (λ c. box (boxOf f) c end) (JoinL (TokenL (openToken f)) (ItemsL V f)) (thenP (tokenP (openToken f)) (itemsP f v)) (only (tokenByte (openToken f)) ++ []) (λ _. false) (λ _. [])
-        (pair-laws (λ x. join (x .0) (x .1)) (TokenL (openToken f)) (ItemsL V f) (tokenP (openToken f)) (itemsP f v) (only (tokenByte (openToken f))) (Gap ++ (only (closer f) ++ (itemFirst f ++ []))) false false [] [] (token-laws (openToken f)) (items-laws f) (open-none f)
-          (only-leaf (token (closeToken f))) (tokenByte (closeToken f) ∷ []) (([], only-leaf (token (closeToken f))), refl, some-items f))
-        (λ _. false) (λ _. []) (λ a e. e) (λ a u t l x. x))
+      (pair-laws (λ x. join (x .0) (x .1)) (TokenL (openToken f)) (ItemsL V f) (tokenP (openToken f)) (itemsP f v) (only (tokenByte (openToken f))) (Gap ++ (only (closer f) ++ (itemFirst f ++ []))) false false [] [] (token-laws (openToken f)) (items-laws f) (open-none f)
+      (only-leaf (token (closeToken f))) (tokenByte (closeToken f) ∷ []) (([], only-leaf (token (closeToken f))), refl, some-items f))
+      (λ _. false) (λ _. []) (λ a e. e) (λ a u t l x. x))
 
   pub both-laws : Laws (BothL V) (orP (only 91) (containerP brackets v) (containerP braces v)) Opening (λ _. false) (λ _. NumberMore)
   both-laws = more (BothL V) (orP (only 91) (containerP brackets v) (containerP braces v)) Opening
@@ -292,14 +293,16 @@ flat-scalar s e (res o t) m = (m .0, m .1, says o (m .2), ag t (m .1) (m .3), ha
     says (ok a) l = inr l
     says bad l = (l .0, l .1, inr (l .2))
     says deep l = (l .0, l .1, inr (l .2))
+
     halts : (o : Out Pieces) → Halts o t → Halts (mapO either (mapO inr o)) t
     halts (ok a) l = tt
     halts bad l = tt
     halts deep l = l
+
     ag : (t : List ℕ) → s ≡ m .0 ++ t → Again scalarP (m .0) o t → Again (valueP 0) (m .0) (mapO either (mapO inr o)) t
     ag [] f z = tt
     ag (b ∷ t) f z = λ w.
-      ap (λ y. mapR either (pick y (nestedP 0) scalarP (m .0 ++ b ∷ w))) (starts-same Opening (m .0) b w t ∙ ap (starts Opening) (sym f) ∙ e) ∙ ap (λ y. mapR either (mapR inr y)) (z w)
+        ap (λ y. mapR either (pick y (nestedP 0) scalarP (m .0 ++ b ∷ w))) (starts-same Opening (m .0) b w t ∙ ap (starts Opening) (sym f) ∙ e) ∙ ap (λ y. mapR either (mapR inr y)) (z w)
 
 flat-means : (s : List ℕ) (v : Bool) → starts Opening s ≡ v → Means (ValueL 0) (valueP 0) s (mapR either (pick v (nestedP 0) scalarP s))
 flat-means s true e = flat-deep s e
@@ -317,9 +320,11 @@ flat-laws = record { first-ok = first; null-ok = nul; means = λ s. flat-means s
     first : (a : Pieces) (b : ℕ) (u : List ℕ) → ValueL 0 a (b ∷ u) → within ValueFirst b ≡ true
     first a b u (inl l) = absurd l
     first a b u (inr l) = covers-ok ValueFirst ScalarFirst refl b (scalar-laws .first-ok a b u l)
+
     nul : (a : Pieces) → ValueL 0 a [] → false ≡ true
     nul a (inl l) = absurd l
     nul a (inr l) = scalar-laws .null-ok a l
+
     comp : (a : Pieces) (u t : List ℕ) → ValueL 0 a u → Free NumberMore t → valueP 0 (u ++ t) ≡ res (ok a) t
     comp a u t (inl l) f = absurd l
     comp a u t (inr l) f = flat-complete a u t l f

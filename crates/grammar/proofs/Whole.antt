@@ -72,11 +72,13 @@ below-live deep t y lo b = absurd lo
 
 agree : (n m : ℕ) (s : List ℕ) (o r : Out Pieces) (t v : List ℕ) → Live o → Live r → textP n s ≡ res o t → textP m s ≡ res r v → res o t ≡ res r v
 agree n m s o r t v lo lr e f =
-    elim (cases-lt n m)
-      [ inl lt ↦ sym (below-live o t (textP m s) lo (subst (λ y. Below y (textP m s)) e (under-far textP text-up n m lt s))) ∙ f
-      | inr ge ↦ elim (cases-lt m n)
-          [ inl lt ↦ sym e ∙ below-live r v (textP n s) lr (subst (λ y. Below y (textP n s)) f (under-far textP text-up m n lt s))
-          | inr le ↦ (let i : n ≡ m = omega arith in sym e ∙ ap (λ k. textP k s) i ∙ f) ] ]
+    elim (cases-lt n m) [
+      | inl lt ↦ sym (below-live o t (textP m s) lo (subst (λ y. Below y (textP m s)) e (under-far textP text-up n m lt s))) ∙ f
+      | inr ge ↦ elim (cases-lt m n) [
+        | inl lt ↦ sym e ∙ below-live r v (textP n s) lr (subst (λ y. Below y (textP n s)) f (under-far textP text-up m n lt s))
+        | inr le ↦ (let i : n ≡ m = omega arith in sym e ∙ ap (λ k. textP k s) i ∙ f)
+      ]
+    ]
 
 parse : (n : ℕ) (a : Pieces) (s : List ℕ) → TextL n a s → textP n s ≡ res (ok a) []
 parse n a s l = ap (textP n) (sym (append-nil s)) ∙ text-laws n .complete a s [] l tt
@@ -100,13 +102,14 @@ stops-at n s u o b t e lo w z =
     let k : length s - suc (length t) ≡ length u = omega arith in
     let tk : take (length u) s ≡ u = ap (take (length u)) e ∙ take-all u (b ∷ t) in
     subst (λ y. Judged n s (BadText y)) (sym k) (bad-text (length u)
-      (record
-        { fits = omega arith
-        ; opens = subst Opens (sym tk) (opens-only n u w)
-        ; longest = λ j lt le q. (let p = take-past u b t j lt in
-            dead n u o b t lo z (p .0 ++ q .0) (q .1) (subst (Sentence (q .1)) (ap (λ y. take j y ++ q .0) e ∙ ap (λ y. y ++ q .0) (p .1) ∙ append-assoc u (b ∷ p .0) (q .0)) (q .2))) })
-      (subst (OpensWithin n) (sym tk) w)
-      (λ y l. dead n u o b t lo z t y (subst (Sentence y) e l)))
+    (record {
+      fits = omega arith;
+      opens = subst Opens (sym tk) (opens-only n u w);
+      longest = λ j lt le q. (let p = take-past u b t j lt in
+          dead n u o b t lo z (p .0 ++ q .0) (q .1) (subst (Sentence (q .1)) (ap (λ y. take j y ++ q .0) e ∙ ap (λ y. y ++ q .0) (p .1) ∙ append-assoc u (b ∷ p .0) (q .0)) (q .2)));
+    })
+    (subst (OpensWithin n) (sym tk) w)
+    (λ y l. dead n u o b t lo z t y (subst (Sentence y) e l)))
 
 -- the text stops at its end
 stops-end : (n : ℕ) (s : List ℕ) → textP n s ≡ res bad [] → OpensWithin n s → Judged n s (BadText (length s - 0))
@@ -114,11 +117,11 @@ stops-end n s e w =
     let k : length s - 0 ≡ length s = omega arith in
     let tk : take (length s) s ≡ s = ap (take (length s)) (sym (append-nil s)) ∙ take-all s [] in
     subst (λ y. Judged n s (BadText y)) (sym k) (bad-text (length s)
-      (record { fits = omega arith; opens = subst Opens (sym tk) (opens-only n s w); longest = λ j lt le q. absurd (omega arith) })
-      (subst (OpensWithin n) (sym tk) w)
-      (λ y l. (let a = text-from (levels y) l (omega arith) in
-        let q = agree n (levels y) s bad (ok (a .0)) [] [] tt tt e (parse (levels y) (a .0) s (a .1)) in
-        let z : _≡_ {A = ℕ} 0 1 = cc in omega arith)))
+    (record { fits = omega arith; opens = subst Opens (sym tk) (opens-only n s w); longest = λ j lt le q. absurd (omega arith) })
+    (subst (OpensWithin n) (sym tk) w)
+    (λ y l. (let a = text-from (levels y) l (omega arith) in
+    let q = agree n (levels y) s bad (ok (a .0)) [] [] tt tt e (parse (levels y) (a .0) s (a .1)) in
+    let z : _≡_ {A = ℕ} 0 1 = cc in omega arith)))
 
 -- one level more gets past the bracket
 past-bracket : (n : ℕ) (s : List ℕ) (k : ℕ) (y : Res Pieces) → Means (TextL (suc n)) (textP (suc n)) s y → length (rest y) + k < length s → Opens (take (suc k) s)
@@ -140,16 +143,17 @@ deepens-at n s u b t f e w z h =
     let tk : take (length u) s ≡ u = ap (take (length u)) e ∙ take-all u (b ∷ t) in
     let t1 : take (suc (length u)) s ≡ u ++ b ∷ [] = ap (take (suc (length u))) e ∙ take-one u b t in
     let bl : length (rest (textP (suc n) s)) < suc (length t) = subst (λ y. Below y (textP (suc n) s)) f (text-up n s) in
-    record
-      { fits = omega arith
-      ; bracket = ap (within Opening) (ap (λ y. getD y (length u) 0) e ∙ getD-at u b t) ∙ h
-      ; before = subst (OpensWithin n) (sym tk) w
-      ; opens = past-bracket n s (length u) (textP (suc n) s) (text-laws (suc n) .means s) (omega arith)
-      ; deeper = λ o. (let q : OpensWithin n (u ++ b ∷ []) = subst (OpensWithin n) t1 o in
+    record {
+      fits = omega arith;
+      bracket = ap (within Opening) (ap (λ y. getD y (length u) 0) e ∙ getD-at u b t) ∙ h;
+      before = subst (OpensWithin n) (sym tk) w;
+      opens = past-bracket n s (length u) (textP (suc n) s) (text-laws (suc n) .means s) (omega arith);
+      deeper = λ o. (let q : OpensWithin n (u ++ b ∷ []) = subst (OpensWithin n) t1 o in
           let l : Sentence (q .1) (u ++ b ∷ q .0) = subst (Sentence (q .1)) (append-assoc u (b ∷ []) (q .0)) (q .2) in
           let a = text-from n l (q .3) in
           let y : res deep (b ∷ q .0) ≡ res (ok (a .0)) [] = sym (z (q .0)) ∙ parse n (a .0) (u ++ b ∷ q .0) (a .1) in
-          cons≢nil (ap rest y)) }
+          cons≢nil (ap rest y));
+    }
 
 judge : (n : ℕ) (s : List ℕ) (x : Res Pieces) → textP n s ≡ x → Means (TextL n) (textP n) s x → Judged n s (whole s x)
 judge n s (res (ok a) []) e m =
@@ -181,15 +185,17 @@ one-layout s y z l k =
 -- the three answers exclude one another
 stops-once : (s : List ℕ) (j k : ℕ) → Stops s j → Stops s k → j ≡ k
 stops-once s j k a b =
-    elim (cases-lt j k)
-      [ inl lt ↦ absurd (a .longest k lt (b .fits) (b .opens))
-      | inr ge ↦ elim (cases-lt k j) [ inl lt ↦ absurd (b .longest j lt (a .fits) (a .opens)) | inr le ↦ omega arith ] ]
+    elim (cases-lt j k) [
+      | inl lt ↦ absurd (a .longest k lt (b .fits) (b .opens))
+      | inr ge ↦ elim (cases-lt k j) [ inl lt ↦ absurd (b .longest j lt (a .fits) (a .opens)) | inr le ↦ omega arith ]
+    ]
 
 deep-or-stops : (n : ℕ) (s : List ℕ) (j k : ℕ) → Stops s j → OpensWithin n (take j s) → Deepens n s k → ⊥
 deep-or-stops n s j k a o d =
-    elim (cases-lt j (suc k))
-      [ inl lt ↦ (let f = d .fits in a .longest (suc k) lt (omega arith) (d .opens))
-      | inr ge ↦ d .deeper (within-less n (suc k) j s ge o) ]
+    elim (cases-lt j (suc k)) [
+      | inl lt ↦ (let f = d .fits in a .longest (suc k) lt (omega arith) (d .opens))
+      | inr ge ↦ d .deeper (within-less n (suc k) j s ge o)
+    ]
 
 refuse : (n : ℕ) (s : List ℕ) (k : ℕ) → Stops s k → OpensWithin n (take k s) → ((y : Layout) → Sentence y s → ⊥) → {x : Answer} → Judged n s x → x ≡ BadText k
 refuse n s k a o f (good p l d e) = absurd (f (layout p) l)
@@ -204,9 +210,10 @@ deepen n s k d (bad-text j b w g) = absurd (deep-or-stops n s j k b w d)
 deepen n s k d (too-deep j q) = refl
 
 pub right : (n : ℕ) → Right n
-right n = record
-  { judges = judges n
-  ; accepts = accepts n
-  ; refuses = λ s k a o f. refuse n s k a o f (judges n s)
-  ; deepens = λ s k d. deepen n s k d (judges n s)
-  ; one-layout = one-layout }
+right n = record {
+  judges = judges n;
+  accepts = accepts n;
+  refuses = λ s k a o f. refuse n s k a o f (judges n s);
+  deepens = λ s k d. deepen n s k d (judges n s);
+  one-layout = one-layout;
+}

@@ -53,11 +53,11 @@ sample = codes "{\"a\":[1 ,],/***/\"\\uD800\":-1.5e+3}\r\n\r// end"
 abbrev pub samplePieces : Pieces
 samplePieces =
     box object (leaf (token open-object)
-      (box property (leaf (name (codes "\"a\"")) (leaf (token colon)
-        (box array (leaf (token open-array) (leaf (number (codes "1")) (leaf (whitespace (codes " ")) (leaf (token comma) (leaf (token close-array) end))))) end)))
-      (leaf (token comma) (leaf (comment (Block (codes "/***/")))
-      (box property (leaf (name (codes "\"\\uD800\"")) (leaf (token colon) (leaf (number (codes "-1.5e+3")) end)))
-      (leaf (token close-object) end))))))
+    (box property (leaf (name (codes "\"a\"")) (leaf (token colon)
+    (box array (leaf (token open-array) (leaf (number (codes "1")) (leaf (whitespace (codes " ")) (leaf (token comma) (leaf (token close-array) end))))) end)))
+    (leaf (token comma) (leaf (comment (Block (codes "/***/")))
+    (box property (leaf (name (codes "\"\\uD800\"")) (leaf (token colon) (leaf (number (codes "-1.5e+3")) end)))
+    (leaf (token close-object) end))))))
     (leaf (newline both) (leaf (newline carriage-return) (leaf (comment (Line (codes "// end"))) end)))
 
 pub record Examples : Type 0 where

@@ -134,21 +134,21 @@ mutual
   pub data Item : Frame → Label → Layout → List ℕ → Type 0 where
     element : {l : Label} {k : Layout} {t : List ℕ} → Value l k t → Item brackets l k t
     member : {n : List ℕ} {g h : Between} {s r : List ℕ} {l : Label} {k : Layout} {t : List ℕ}
-      → Many StringChar n → Trivia false g s → Trivia false h r → Value l k t
-      → Item braces (Member n) (mark false Name (after g (λ b. mark b Colon (after h (λ d. item d l k (stop false)))))) (quoted n ++ (s ++ 58 ∷ (r ++ t)))
+        → Many StringChar n → Trivia false g s → Trivia false h r → Value l k t
+        → Item braces (Member n) (mark false Name (after g (λ b. mark b Colon (after h (λ d. item d l k (stop false)))))) (quoted n ++ (s ++ 58 ∷ (r ++ t)))
 
   -- what follows an opening bracket, or a comma: the closing bracket, a last item and the bracket, or an item, a comma and more
   pub data Items : Frame → Layout → List ℕ → Type 0 where
     close : {f : Frame} {g : Between} {s : List ℕ} → Trivia false g s → Items f (after g shut) (s ++ closer f ∷ [])
     last : {f : Frame} {g h : Between} {l : Label} {k : Layout} {s t r : List ℕ}
-      → Trivia false g s → Item f l k t → Trivia false h r
-      → Items f (after g (λ b. item b l k (after h shut))) (s ++ (t ++ (r ++ closer f ∷ [])))
+        → Trivia false g s → Item f l k t → Trivia false h r
+        → Items f (after g (λ b. item b l k (after h shut))) (s ++ (t ++ (r ++ closer f ∷ [])))
     more : {f : Frame} {g h : Between} {l : Label} {k y : Layout} {s t r u : List ℕ}
-      → Trivia false g s → Item f l k t → Trivia false h r → Items f y u
-      → Items f (after g (λ b. item b l k (after h (λ d. mark d Comma y)))) (s ++ (t ++ (r ++ 44 ∷ u)))
+        → Trivia false g s → Item f l k t → Trivia false h r → Items f y u
+        → Items f (after g (λ b. item b l k (after h (λ d. mark d Comma y)))) (s ++ (t ++ (r ++ 44 ∷ u)))
 
 -- a text is trivia, or trivia, one value and trivia
 pub data Sentence : Layout → List ℕ → Type 0 where
   nothing : {g : Between} {s : List ℕ} → Trivia true g s → Sentence (after g stop) s
   something : {g h : Between} {l : Label} {k : Layout} {s t r : List ℕ}
-    → Trivia false g s → Value l k t → Trivia true h r → Sentence (after g (λ b. item b l k (after h stop))) (s ++ (t ++ r))
+      → Trivia false g s → Value l k t → Trivia true h r → Sentence (after g (λ b. item b l k (after h stop))) (s ++ (t ++ r))

@@ -1,0 +1,4 @@
+pub mod Laws
+pub mod Ties
+pub mod Lexed
+pub mod Blocks
