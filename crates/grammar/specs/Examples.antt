@@ -27,13 +27,14 @@ abbrev pub Takes : List (List ℕ) → Type 0
 Takes [] = Unit {0}
 Takes (t ∷ ts) = (taken (read 64 t) ≡ true) × Takes ts
 
--- texts that stop being one: misplaced values and commas, numbers, comments, an open line comment in an array, a control character in a string,
+-- texts that stop being one: misplaced values and commas, numbers, comments, an open line comment in an array, looser forms, a control character in a string,
 -- a byte order mark, an overlong form, half a surrogate pair in UTF-8, a character above U+10FFFF, a character that is cut off
 abbrev pub refused : List (List ℕ × ℕ)
 refused =
     (codes "[1 2]", 3) ∷ (codes "[,]", 1) ∷ (codes "[1,,]", 3) ∷ (codes "{,}", 1) ∷ (codes "{\"a\" 1}", 5)
     ∷ (codes "01", 1) ∷ (codes "1.", 2) ∷ (codes "-", 1) ∷ (codes "1e+", 3) ∷ (codes "tru", 3) ∷ (codes "nul]", 3)
     ∷ (codes "/", 1) ∷ (codes "/* x", 4) ∷ (codes "/* x *", 6) ∷ (codes "[1 // x", 7) ∷ (codes "[1 // x\n", 8) ∷ (codes "1 // x\n2", 7)
+    ∷ (codes "'a'", 0) ∷ (codes "{a:1}", 1) ∷ (codes "NaN", 0) ∷ (codes "{\"a\":1 \"b\":2}", 7) ∷ (codes "0x1F", 1) ∷ (codes "+1", 0) ∷ (codes ".5", 0)
     ∷ (34 ∷ 9 ∷ 34 ∷ [], 1) ∷ (codes "\"\\x", 2) ∷ (codes "\"\\u00g", 5)
     ∷ (239 ∷ 187 ∷ 191 ∷ 49 ∷ [], 0) ∷ (34 ∷ 192 ∷ 128 ∷ 34 ∷ [], 1) ∷ (34 ∷ 224 ∷ 159 ∷ 191 ∷ 34 ∷ [], 2) ∷ (34 ∷ 237 ∷ 160 ∷ 128 ∷ 34 ∷ [], 2)
     ∷ (34 ∷ 244 ∷ 144 ∷ 128 ∷ 128 ∷ 34 ∷ [], 2) ∷ (47 ∷ 47 ∷ 226 ∷ 130 ∷ [], 4) ∷ (47 ∷ 47 ∷ 226 ∷ 130 ∷ 10 ∷ [], 4) ∷ []
@@ -44,7 +45,7 @@ abbrev pub accepted : List (List ℕ)
 accepted =
     [] ∷ codes " \t\r\n\r" ∷ codes "1 // x" ∷ codes "[1,]" ∷ codes "{\"a\":1,\"a\":2,}" ∷ codes "\"\\uD800\"" ∷ codes "/***/[/*/*/]//"
     ∷ (34 ∷ 194 ∷ 128 ∷ 224 ∷ 160 ∷ 128 ∷ 237 ∷ 159 ∷ 191 ∷ 238 ∷ 128 ∷ 128 ∷ 240 ∷ 144 ∷ 128 ∷ 128 ∷ 244 ∷ 143 ∷ 191 ∷ 191 ∷ 127 ∷ 34 ∷ [])
-    ∷ (47 ∷ 47 ∷ 0 ∷ 127 ∷ 10 ∷ []) ∷ codes "-0.5e+3" ∷ nest 64 ∷ []
+    ∷ (47 ∷ 47 ∷ 0 ∷ 127 ∷ 10 ∷ []) ∷ codes "-0.5e+3" ∷ codes "//c\r1" ∷ nest 64 ∷ []
 
 -- one text with its pieces
 abbrev pub sample : List ℕ
