@@ -1,0 +1,15 @@
+pub mod Frames
+pub mod Inserts
+pub mod Heads
+pub mod Appends
+pub mod Deletes
+pub mod Places
+pub mod Picks
+pub mod Told
+pub mod Index
+pub mod Edited
+pub mod Tails
+pub mod Local
+pub mod Updates
+pub mod Maps
+pub mod Owned

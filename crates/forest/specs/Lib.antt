@@ -1,0 +1,4 @@
+pub mod Forest
+pub mod Edits
+pub mod Asks
+pub mod Links

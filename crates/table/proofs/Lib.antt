@@ -1,0 +1,15 @@
+pub mod Writes
+pub mod After
+pub mod First
+pub mod Roots
+pub mod Cuts
+pub mod ReadBack
+pub mod Frees
+pub mod Props
+pub mod Removes
+pub mod Goods
+pub mod Seen
+pub mod Inserted
+pub mod Removed
+pub mod Changed
+pub mod Fresh

@@ -1,0 +1,8 @@
+use Rattle.table.proofs.Seen.{there-in, own-is}
+use Rattle.table.proofs.table.Table.own.Needs as need
+
+pub index-requires : need.index-requires
+index-requires c κs = there-in (c .args .self .now) (c .args .place) (c .pre)
+
+pub returns : need.returns
+returns c = own-is (c .args .self .now) (c .args .place) (c .pre) (c .index .result .now) (c .index .ensures)

@@ -1,0 +1,4 @@
+pub mod Nodes
+pub mod Writes
+pub mod Sound
+pub mod Tables
