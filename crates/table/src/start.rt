@@ -54,6 +54,13 @@ fn fresh_stack(heap: Global, records: usize) -> Result<Vec<Place>, AllocError>
 }
 
 impl Table {
+    /// How many bytes a record takes.
+    pub fn record_size() -> usize
+        ensures { λ r. ⌜ r ≡ 32 ⌝ }
+    {
+        std::mem::size_of::<Node>()
+    }
+
     /// A table of so many records with a root alone in it. No later call asks for memory.
     pub fn new(heap: Global, records: usize, root: Own) -> Result<Table, NoTable>
         requires { ⌜ (root .number ≡ 0 → ⊥) ⌝ }

@@ -67,3 +67,9 @@ fn moves_text(rt: LibcRuntime) -> Result<(), Fail> {
     let of_a = facts((7, 3), Some(0), (None, None), (None, None), 0);
     check(seen(&t, a) == Some(of_a))
 }
+
+// A record stays small: 65,535 of them are two mebibytes.
+#[test]
+fn records_are_small() -> Result<(), Fail> {
+    check(table::Table::record_size() == 32)
+}
