@@ -8,6 +8,7 @@ use native.Mathlib.Omega.{arith}
 use lib.Dec.{eqb, leb}
 use lib.ListN.{length, drop, take, getD}
 use Rattle.std.proofs.shelf.Ways.{tells}
+use Rattle.std.proofs.shelf.Tests.{eqb-true}
 use Rattle.std.specs.declared.option.Option.{Option}
 use Rattle.std.specs.declared.option.Option.the-variants.{Some, None}
 use Rattle.std.specs.declared.result.Result.{Result}
@@ -16,7 +17,7 @@ use Rattle.grammar.specs.Parse.{ok, bad, deep, Res, res, mapR, Parser, Class, w
 use Rattle.grammar.specs.Classes.{only}
 use Rattle.grammar.specs.Grammar.{Frame, brackets, braces, closer}
 use Rattle.grammar.specs.Pieces.{Token, token, comma, colon, Pieces, tokenByte}
-use Rattle.grammar.specs.Reader.{orP, thenP, only-leaf, tokenP, triviaP, nameP, closeToken, endP}
+use Rattle.grammar.specs.Reader.{orP, thenP, only-leaf, tokenP, triviaP, nameP, closeToken, endP, stringLeafP, nullP, trueP, falseP, numberLeafP, scalarP}
 use Rattle.lexemes.specs.Scan.{Reads, Fails, Passes, Goes}
 use Rattle.lexemes.proofs.Ties.{starts-in, one-reads, one-fails}
 use Rattle.lexemes.proofs.Lexed.{Bytes, bytes-moves}
@@ -36,13 +37,25 @@ use Rattle.text.proofs.Telling.{stops-by, stops-then, stops-map}
 abbrev byteOf : TokenKind → ℕ
 byteOf m = tokenByte (tokenFor m)
 
+some-is : TokenKind → Option TokenKind → TokenKind
+some-is x (Some k) = k
+some-is x None = x
+
+-- a byte that is one of the tokens tried is that token's
+tried : (b v : ℕ) (k x : TokenKind) (rest : Option TokenKind) → byteOf x ≡ v → (Some k ≡ rest → byteOf k ≡ b) → Some k ≡ cond (eqb b v) (Some x) rest → byteOf k ≡ b
+unfolding some-is
+tried b v k x rest is later e = go (eqb b v) refl e
+  where
+    go : (w : Bool) → eqb b v ≡ w → Some k ≡ cond w (Some x) rest → byteOf k ≡ b
+    go true q f = ap (λ o. byteOf (some-is k o)) f ∙ is ∙ sym (eqb-true b v q)
+    go false q f = later f
+
+missing : {A : Type 0} (k : TokenKind) → Some k ≡ None → A
+missing k e = let z : _≡_ {A = ℕ} 0 1 = cc in absurd (omega arith)
+
 token-byte : (b : ℕ) (k : TokenKind) → Some k ≡ tokenOf b → byteOf k ≡ b
-token-byte b OpenArray e = grind (arith, tells)
-token-byte b CloseArray e = grind (arith, tells)
-token-byte b OpenObject e = grind (arith, tells)
-token-byte b CloseObject e = grind (arith, tells)
-token-byte b Comma e = grind (arith, tells)
-token-byte b Colon e = grind (arith, tells)
+token-byte b k e =
+    tried b 91 k OpenArray _ refl (tried b 93 k CloseArray _ refl (tried b 123 k OpenObject _ refl (tried b 125 k CloseObject _ refl (tried b 44 k Comma _ refl (tried b 58 k Colon None refl (missing k)))))) e
 
 same-byte : (x b : ℕ) → eqb x b ≡ within (only b) x
 same-byte x b = grind (arith, tells)
@@ -50,13 +63,20 @@ same-byte x b = grind (arith, tells)
 pub token-found : (b : ℕ) (k m : TokenKind) → Some k ≡ tokenOf b → eqb (byteOf k) (byteOf m) ≡ within (only (byteOf m)) b
 token-found b k m e = same-byte (byteOf k) (byteOf m) ∙ ap (within (only (byteOf m))) (token-byte b k e)
 
+token-back : (m : TokenKind) → tokenOf (byteOf m) ≡ Some m
+token-back OpenArray = refl
+token-back CloseArray = refl
+token-back OpenObject = refl
+token-back CloseObject = refl
+token-back Comma = refl
+token-back Colon = refl
+
 pub token-none : (b : ℕ) (m : TokenKind) → None ≡ tokenOf b → false ≡ within (only (byteOf m)) b
-token-none b OpenArray e = grind (arith, tells)
-token-none b CloseArray e = grind (arith, tells)
-token-none b OpenObject e = grind (arith, tells)
-token-none b CloseObject e = grind (arith, tells)
-token-none b Comma e = grind (arith, tells)
-token-none b Colon e = grind (arith, tells)
+token-none b m e = go (eqb b (byteOf m)) refl ∙ same-byte b (byteOf m)
+  where
+    go : (w : Bool) → eqb b (byteOf m) ≡ w → false ≡ eqb b (byteOf m)
+    go true q = missing m (sym (e ∙ ap tokenOf (eqb-true b (byteOf m) q) ∙ token-back m))
+    go false q = sym q
 
 -- a lexeme ends behind its beginning
 pub goes-behind : (l : ℕ) (p : Parser (List ℕ)) → Bytes l p → (s : List ℕ) (i : ℕ) → i ≤ length s → (r : Result ℕ ℕ) → Goes p s i r → Behind s i r
@@ -94,3 +114,38 @@ module _ {S : Type 0} (after : S → List Event → S → Type 0) (idle : (a : S
     pub label-made : (r : Result ℕ Fault) (e : S) → Makes after (triviaP false) s l d r e → Leads after labelled s i a r e
     label-made (Ok n) e m = (m .1 .fits, λ v r f w. onward v r f (telling.makes-then after idle joined (triviaP false) s l d v n e m r f w))
     label-made (Err q) e m = λ v. onward v (Err q) e (stops-then (triviaP false) v s l q m)
+
+-- the value that the first byte chooses
+abbrev afterTrue : Parser Pieces
+afterTrue = orP (only 102) falseP numberLeafP
+
+abbrev afterNull : Parser Pieces
+afterNull = orP (only 116) trueP afterTrue
+
+abbrev afterString : Parser Pieces
+afterString = orP (only 110) nullP afterNull
+
+module _ {S : Type 0} (after : S → List Event → S → Type 0) (idle : (a : S) → after a [] a) (joined : (a b c : S) (x y : List Event) → after a x b → after b y c → after a (x ++ y) c) (s : List ℕ) (i : ℕ) (a : S) (r : Result ℕ Fault) (b : S) where
+  pub scalar-string : true ≡ starts (only 34) (drop i s) → Makes after stringLeafP s i a r b → Makes after scalarP s i a r b
+  scalar-string e m = telling.makes-left after idle joined (only 34) stringLeafP afterString s i (sym e) a r b m
+
+  past-string : false ≡ starts (only 34) (drop i s) → Makes after afterString s i a r b → Makes after scalarP s i a r b
+  past-string e m = telling.makes-right after idle joined (only 34) stringLeafP afterString s i (sym e) a r b m
+
+  pub scalar-null : false ≡ starts (only 34) (drop i s) → true ≡ starts (only 110) (drop i s) → Makes after nullP s i a r b → Makes after scalarP s i a r b
+  scalar-null p e m = past-string p (telling.makes-left after idle joined (only 110) nullP afterNull s i (sym e) a r b m)
+
+  past-null : false ≡ starts (only 34) (drop i s) → false ≡ starts (only 110) (drop i s) → Makes after afterNull s i a r b → Makes after scalarP s i a r b
+  past-null p q m = past-string p (telling.makes-right after idle joined (only 110) nullP afterNull s i (sym q) a r b m)
+
+  pub scalar-true : false ≡ starts (only 34) (drop i s) → false ≡ starts (only 110) (drop i s) → true ≡ starts (only 116) (drop i s) → Makes after trueP s i a r b → Makes after scalarP s i a r b
+  scalar-true p q e m = past-null p q (telling.makes-left after idle joined (only 116) trueP afterTrue s i (sym e) a r b m)
+
+  past-true : false ≡ starts (only 34) (drop i s) → false ≡ starts (only 110) (drop i s) → false ≡ starts (only 116) (drop i s) → Makes after afterTrue s i a r b → Makes after scalarP s i a r b
+  past-true p q u m = past-null p q (telling.makes-right after idle joined (only 116) trueP afterTrue s i (sym u) a r b m)
+
+  pub scalar-false : false ≡ starts (only 34) (drop i s) → false ≡ starts (only 110) (drop i s) → false ≡ starts (only 116) (drop i s) → true ≡ starts (only 102) (drop i s) → Makes after falseP s i a r b → Makes after scalarP s i a r b
+  scalar-false p q u e m = past-true p q u (telling.makes-left after idle joined (only 102) falseP numberLeafP s i (sym e) a r b m)
+
+  pub scalar-number : false ≡ starts (only 34) (drop i s) → false ≡ starts (only 110) (drop i s) → false ≡ starts (only 116) (drop i s) → false ≡ starts (only 102) (drop i s) → Makes after numberLeafP s i a r b → Makes after scalarP s i a r b
+  scalar-number p q u e m = past-true p q u (telling.makes-right after idle joined (only 102) falseP numberLeafP s i (sym e) a r b m)

@@ -59,11 +59,12 @@ abbrev pub Leads : {S : Type 0} → (S → List Event → S → Type 0) → (Par
 Leads {S} after p s i a (Ok j) b = (j ≤ length s) × ((v : Parser Pieces) (r : Result ℕ Fault) (c : S) → Makes after v s j b r c → Makes after (p v) s i a r c)
 Leads after p s i a (Err f) b = (v : Parser Pieces) → Stops (p v) s i f
 
--- what is read goes on, or is the last
+-- what is read goes on
 abbrev pub more : Result ℕ Fault → Result Step Fault
 more (Ok j) = Ok (More j)
 more (Err f) = Err f
 
+-- what is read is the last
 abbrev pub done : Result ℕ Fault → Result Step Fault
 done (Ok j) = Ok (Done j)
 done (Err f) = Err f
