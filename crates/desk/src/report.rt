@@ -1,5 +1,9 @@
 //! What the program says of a file.
 
+ghost use Rattle.check.specs.Checked.{checked};
+ghost use Rattle.std.specs.Results.{isOk};
+ghost use Rattle.std.specs.Vec.{made};
+ghost use mathlib.Core.Path.{_≡_};
 use check::check_text;
 use check::extent::Extent;
 use refusal::Refusal;
@@ -33,7 +37,9 @@ fn print_extent(rt: &impl Print, extent: Extent) -> io::Result<()> {
 }
 
 /// Checks a text and says what was found; whether it is a house file.
-pub fn report(rt: &impl Print, name: &str, text: &[u8]) -> io::Result<bool> {
+pub fn report(rt: &impl Print, name: &str, text: &[u8]) -> io::Result<bool>
+    ensures { λ r. ⌜ made r (λ good. good ≡ isOk (checked (now (text .entry)))) ⌝ }
+{
     let size = text.len();
     println!(rt, "{name}: {size} bytes")?;
     match check_text(text) {
