@@ -1,0 +1,16 @@
+pub mod Nodes
+pub mod Escapes
+pub mod Asks
+pub mod Edits
+pub mod Indents
+pub mod Written
+pub mod Fits
+pub mod State
+pub mod Sources
+pub mod Rows
+pub mod Cases
+pub mod Numbers
+pub mod Changes
+pub mod Laws
+pub mod Account
+pub mod Promise
