@@ -17,7 +17,7 @@ use text::values::read_text;
 pub const MAX_TEXT: usize = 1_048_576;
 
 /// The refusal that a fault leads to.
-pub fn refusal_of(fault: Fault) -> Refusal
+fn refusal_of(fault: Fault) -> Refusal
     ensures { λ r. ⌜ r ≡ refusalFor fault ⌝ }
 {
     match fault {

@@ -38,7 +38,7 @@ comma-behind f (here shut false) ts e = absurd (no-dead f ts e)
 
 -- trivia leads on alike from two places where it may stand
 pub gap-alike : (f : Owner) (q r : Pos) (l : Bool) (g : Gap) (ts us : Nodes) → ((k : Bool) → Ends f (run (here q k) ts) → Ends f (run (here r k) us))
-  → Ends f (run (spaced true q l g) ts) → Ends f (run (spaced true r l g) us)
+    → Ends f (run (spaced true q l g) ts) → Ends f (run (spaced true r l g) us)
 gap-alike f q r true blank ts us h e = absurd (no-dead f ts e)
 gap-alike f q r true break ts us h e = h false e
 gap-alike f q r true (remark c) ts us h e = absurd (no-dead f ts e)
@@ -83,8 +83,8 @@ untrailed-ends : (f : Owner) (q : State) (ts : Nodes) → Ends f (run q ts) → 
 untrailed-ends f q end e = e
 untrailed-ends f q (node p i ks ts) e = cond-both (isComma (class (i .sort)) && ends ts) (untrailed ts) (node p i (untrailed ks) (untrailed ts)) (λ y. Ends f (run q y))
     (λ z. (let a = and-parts (isComma (class (i .sort))) (ends ts) z in
-      let b = comma-behind f q ts (subst (λ c. Ends f (run (step q c) ts)) (is-comma (class (i .sort)) (a .0)) e) in
-      untrailed-ends f q ts (subst (λ s. Ends f (run s ts)) (sym (b .0)) (bracket-next f false ts (a .1) (b .1)))))
+    let b = comma-behind f q ts (subst (λ c. Ends f (run (step q c) ts)) (is-comma (class (i .sort)) (a .0)) e) in
+    untrailed-ends f q ts (subst (λ s. Ends f (run s ts)) (sym (b .0)) (bracket-next f false ts (a .1) (b .1)))))
     (λ z. untrailed-ends f (step q (class (i .sort))) ts e)
 
 untrailed-taken : (f : Owner) (ts : Nodes) → Taken f ts → Taken f (untrailed ts)
@@ -138,10 +138,10 @@ pub untrailed-parts : (ts : Nodes) → Whole ts → parts (untrailed ts) ≡ par
 untrailed-parts end h = refl
 untrailed-parts (node p i ks ts) h = cond-both (isComma (class (i .sort)) && ends ts) (untrailed ts) (node p i (untrailed ks) (untrailed ts)) (λ y. parts y ≡ parts (node p i ks ts))
     (λ z. (let a = is-comma (class (i .sort)) (and-parts (isComma (class (i .sort))) (ends ts) z .0) in
-      untrailed-parts ts (h .2) ∙ sym (ap (λ c. partsAt c (handle p i) (labelOf (i .sort) (pieces ks)) (parts ks) (parts ts)) a)))
+    untrailed-parts ts (h .2) ∙ sym (ap (λ c. partsAt c (handle p i) (labelOf (i .sort) (pieces ks)) (parts ks) (parts ts)) a)))
     (λ z. ap (λ l. partsAt (class (i .sort)) (handle p i) l (parts (untrailed ks)) (parts (untrailed ts))) (label-kept (i .sort) ks (untrailed ks) (h .0) (λ b k. untrailed-name b ks k (h .1)))
-      ∙ (ap (λ y. partsAt (class (i .sort)) (handle p i) (labelOf (i .sort) (pieces ks)) y (parts (untrailed ts))) (untrailed-parts ks (h .1))
-      ∙ ap (partsAt (class (i .sort)) (handle p i) (labelOf (i .sort) (pieces ks)) (parts ks)) (untrailed-parts ts (h .2))))
+    ∙ (ap (λ y. partsAt (class (i .sort)) (handle p i) (labelOf (i .sort) (pieces ks)) y (parts (untrailed ts))) (untrailed-parts ks (h .1))
+    ∙ ap (partsAt (class (i .sort)) (handle p i) (labelOf (i .sort) (pieces ks)) (parts ks)) (untrailed-parts ts (h .2))))
 
 -- IF MULTILINE
 
@@ -162,7 +162,7 @@ value-next f (here only false) (node p i ks ts) z e = absurd (go (class (i .sort
     go value z e = no-dead f ts e
 value-next f (here shut false) ts z e = absurd (no-dead f ts e)
 
-is-value : (c : Class) → isValue c ≡ true → c ≡ value
+pub is-value : (c : Class) → isValue c ≡ true → c ≡ value
 is-value (gap g) e = absurd (false≢true e)
 is-value (mark m) e = absurd (false≢true e)
 is-value value e = refl
@@ -175,22 +175,24 @@ trailed-ends : (f : Owner) (q : State) (b : Bool) (s : Supply) (ts : Nodes) → 
 trailed-ends f q b s end e = e
 trailed-ends f q b s (node p i ks ts) e =
     cond-both (b && (isValue (class (i .sort)) && ends ts)) 1 0
-      (λ d. Ends f (run (step q (class (i .sort))) (append (sown s (commas d)) (trailed b (skip (d + dues (lined (i .sort) ks) ks) s) ts))))
-      (λ z. (let a = and-parts b (isValue (class (i .sort)) && ends ts) z in let c = and-parts (isValue (class (i .sort))) (ends ts) (a .1) in
-        let e′ : Ends f (run (step q value) ts) = subst (λ y. Ends f (run (step q y) ts)) (is-value (class (i .sort)) (c .0)) e in
-        let v = value-next f q ts (c .1) e′ in
-        let h : Ends f (run (here items false) ts) = bracket-items f false ts (c .1) (subst (λ y. Ends f (run y ts)) v e′) in
-        let r : Ends f (run (here items false) (trailed b (skip (1 + dues (lined (i .sort) ks) ks) s) ts)) = trailed-ends f (here items false) b (skip (1 + dues (lined (i .sort) ks) ks) s) ts h in
-        subst (λ y. Ends f (run (step y (mark Comma)) (trailed b (skip (1 + dues (lined (i .sort) ks) ks) s) ts))) (sym (ap (step q) (is-value (class (i .sort)) (c .0)) ∙ v)) r))
-      (λ z. trailed-ends f (step q (class (i .sort))) b (skip (0 + dues (lined (i .sort) ks) ks) s) ts e)
+    (λ d. Ends f (run (step q (class (i .sort))) (append (sown s (commas d)) (trailed b (skip (d + dues (lined (i .sort) ks) ks) s) ts))))
+    (λ z. (let a = and-parts b (isValue (class (i .sort)) && ends ts) z in let c = and-parts (isValue (class (i .sort))) (ends ts) (a .1) in
+    let e′ : Ends f (run (step q value) ts) = subst (λ y. Ends f (run (step q y) ts)) (is-value (class (i .sort)) (c .0)) e in
+    let v = value-next f q ts (c .1) e′ in
+    let h : Ends f (run (here items false) ts) = bracket-items f false ts (c .1) (subst (λ y. Ends f (run y ts)) v e′) in
+    let r : Ends f (run (here items false) (trailed b (skip (1 + dues (lined (i .sort) ks) ks) s) ts)) = trailed-ends f (here items false) b (skip (1 + dues (lined (i .sort) ks) ks) s) ts h in
+    subst (λ y. Ends f (run (step y (mark Comma)) (trailed b (skip (1 + dues (lined (i .sort) ks) ks) s) ts))) (sym (ap (step q) (is-value (class (i .sort)) (c .0)) ∙ v)) r))
+    (λ z. trailed-ends f (step q (class (i .sort))) b (skip (0 + dues (lined (i .sort) ks) ks) s) ts e)
 
 trailed-taken : (f : Owner) (b : Bool) (s : Supply) (ts : Nodes) → Commaed f b → Taken f ts → Taken f (trailed b s ts)
 trailed-taken f b s end k h = tt
-trailed-taken f b s (node p i ks ts) k h =
-    (h .0, cond-both (b && (isValue (class (i .sort)) && ends ts)) 1 0
+trailed-taken f b s (node p i ks ts) k h = (
+  h .0,
+  cond-both (b && (isValue (class (i .sort)) && ends ts)) 1 0
       (λ d. Taken f (append (sown s (commas d)) (trailed b (skip (d + dues (lined (i .sort) ks) ks) s) ts)))
       (λ z. (k (and-parts b (isValue (class (i .sort)) && ends ts) z .0), trailed-taken f b (skip (1 + dues (lined (i .sort) ks) ks) s) ts k (h .1)))
-      (λ z. trailed-taken f b (skip (0 + dues (lined (i .sort) ks) ks) s) ts k (h .1)))
+      (λ z. trailed-taken f b (skip (0 + dues (lined (i .sort) ks) ks) s) ts k (h .1)),
+)
 
 pub trailed-fits : (f : Owner) (b : Bool) (s : Supply) (ts : Nodes) → Commaed f b → Fits f ts → Fits f (trailed b s ts)
 trailed-fits f b s ts k h = record { ends = trailed-ends f (begin f) b s ts (h .ends); taken = trailed-taken f b s ts k (h .taken) }
@@ -212,21 +214,23 @@ trailed-holds (single x) s ks h = (h .0, trailed-end (lined (single x) ks) s ks 
 
 pub trailed-whole : (b : Bool) (s : Supply) (ts : Nodes) → Whole ts → Whole (trailed b s ts)
 trailed-whole b s end h = tt
-trailed-whole b s (node p i ks ts) h =
-    ( trailed-holds (i .sort) (skip (due b i ts) s) ks (h .0), trailed-whole (lined (i .sort) ks) (skip (due b i ts) s) ks (h .1)
-    , cond-both (b && (isValue (class (i .sort)) && ends ts)) 1 0
-        (λ d. Whole (append (sown s (commas d)) (trailed b (skip (d + dues (lined (i .sort) ks) ks) s) ts)))
-        (λ z. ((tt, tt), tt, trailed-whole b (skip (1 + dues (lined (i .sort) ks) ks) s) ts (h .2)))
-        (λ z. trailed-whole b (skip (0 + dues (lined (i .sort) ks) ks) s) ts (h .2)) )
+trailed-whole b s (node p i ks ts) h = (
+  trailed-holds (i .sort) (skip (due b i ts) s) ks (h .0),
+  trailed-whole (lined (i .sort) ks) (skip (due b i ts) s) ks (h .1),
+  cond-both (b && (isValue (class (i .sort)) && ends ts)) 1 0
+      (λ d. Whole (append (sown s (commas d)) (trailed b (skip (d + dues (lined (i .sort) ks) ks) s) ts)))
+      (λ z. ((tt, tt), tt, trailed-whole b (skip (1 + dues (lined (i .sort) ks) ks) s) ts (h .2)))
+      (λ z. trailed-whole b (skip (0 + dues (lined (i .sort) ks) ks) s) ts (h .2)),
+)
 
 pub trailed-comments : (b : Bool) (s : Supply) (ts : Nodes) → comments (trailed b s ts) ≡ comments ts
 trailed-comments b s end = refl
 trailed-comments b s (node p i ks ts) =
     ap (λ y. remarksOf (class (i .sort)) y ++ comments (append (sown s (commas (due b i ts))) (trailed b (skip (due b i ts + dues (lined (i .sort) ks) ks) s) ts))) (trailed-comments (lined (i .sort) ks) (skip (due b i ts) s) ks)
     ∙ ap (λ y. remarksOf (class (i .sort)) (comments ks) ++ y)
-      (cond-both (b && (isValue (class (i .sort)) && ends ts)) 1 0
-        (λ d. comments (append (sown s (commas d)) (trailed b (skip (d + dues (lined (i .sort) ks) ks) s) ts)) ≡ comments ts)
-        (λ z. trailed-comments b (skip (1 + dues (lined (i .sort) ks) ks) s) ts) (λ z. trailed-comments b (skip (0 + dues (lined (i .sort) ks) ks) s) ts))
+    (cond-both (b && (isValue (class (i .sort)) && ends ts)) 1 0
+    (λ d. comments (append (sown s (commas d)) (trailed b (skip (d + dues (lined (i .sort) ks) ks) s) ts)) ≡ comments ts)
+    (λ z. trailed-comments b (skip (1 + dues (lined (i .sort) ks) ks) s) ts) (λ z. trailed-comments b (skip (0 + dues (lined (i .sort) ks) ks) s) ts))
 
 trailed-name : (b : Bool) (s : Supply) (ks : Nodes) → Whole ks → nameOf (pieces (trailed b s ks)) ≡ nameOf (pieces ks)
 trailed-name b s end w = refl
@@ -240,6 +244,6 @@ trailed-parts b s (node p i ks ts) h =
     ap (λ l. partsAt (class (i .sort)) (handle p i) l (parts us) (parts vs)) (label-kept (i .sort) ks us (h .0) (λ x k. trailed-name (lined (i .sort) ks) (skip (due b i ts) s) ks (h .1)))
     ∙ (ap (λ y. partsAt (class (i .sort)) (handle p i) (labelOf (i .sort) (pieces ks)) y (parts vs)) (trailed-parts (lined (i .sort) ks) (skip (due b i ts) s) ks (h .1))
     ∙ ap (partsAt (class (i .sort)) (handle p i) (labelOf (i .sort) (pieces ks)) (parts ks))
-      (cond-both (b && (isValue (class (i .sort)) && ends ts)) 1 0
-        (λ d. parts (append (sown s (commas d)) (trailed b (skip (d + dues (lined (i .sort) ks) ks) s) ts)) ≡ parts ts)
-        (λ z. trailed-parts b (skip (1 + dues (lined (i .sort) ks) ks) s) ts (h .2)) (λ z. trailed-parts b (skip (0 + dues (lined (i .sort) ks) ks) s) ts (h .2))))
+    (cond-both (b && (isValue (class (i .sort)) && ends ts)) 1 0
+    (λ d. parts (append (sown s (commas d)) (trailed b (skip (d + dues (lined (i .sort) ks) ks) s) ts)) ≡ parts ts)
+    (λ z. trailed-parts b (skip (1 + dues (lined (i .sort) ks) ks) s) ts (h .2)) (λ z. trailed-parts b (skip (0 + dues (lined (i .sort) ks) ks) s) ts (h .2))))

@@ -67,7 +67,7 @@ module _ (c : ℕ) (F : Nodes → Nodes) where
   comments-edited (node p j ks ts) k = cond-both (eqb p c) (node p j (F ks) ts) (node p j (edited c F ks) (edited c F ts)) (λ y. comments y ≡ comments (node p j ks ts))
       (λ e. ap (λ y. remarksOf (class (j .sort)) y ++ comments ts) (k j ks (inl (eqb-true p c e, refl, refl))))
       (λ e. ap (λ y. remarksOf (class (j .sort)) y ++ comments (edited c F ts)) (comments-edited ks (λ i us a. k i us (inr (inl a))))
-        ∙ ap (λ y. remarksOf (class (j .sort)) (comments ks) ++ y) (comments-edited ts (λ i us a. k i us (inr (inr a)))))
+      ∙ ap (λ y. remarksOf (class (j .sort)) (comments ks) ++ y) (comments-edited ts (λ i us a. k i us (inr (inr a)))))
 
   -- a property's name is that of its first child, which stays
   name-edited : (ts : Nodes) → nameOf (pieces (edited c F ts)) ≡ nameOf (pieces ts)
@@ -89,22 +89,23 @@ module _ (c : ℕ) (F : Nodes → Nodes) where
 
   -- The value with its handles: a change of the parts below c. A part's own handle and label stay.
   pub parts-edited : (G : Parts Handle → Parts Handle) (ts : Nodes)
-    → ((j : Own) (ks : Nodes) → At c j ks ts → (class (j .sort) ≡ value) × (parts (F ks) ≡ G (parts ks)) × (labelOf (j .sort) (pieces (F ks)) ≡ labelOf (j .sort) (pieces ks)))
-    → parts (edited c F ts) ≡ changed c G (parts ts)
+      → ((j : Own) (ks : Nodes) → At c j ks ts → (class (j .sort) ≡ value) × (parts (F ks) ≡ G (parts ks)) × (labelOf (j .sort) (pieces (F ks)) ≡ labelOf (j .sort) (pieces ks)))
+      → parts (edited c F ts) ≡ changed c G (parts ts)
   parts-edited G end k = refl
   parts-edited G (node p j ks ts) k = cond-both (eqb p c) (node p j (F ks) ts) (node p j (edited c F ks) (edited c F ts)) (λ y. parts y ≡ changed c G (parts (node p j ks ts)))
       (λ e. (let h = k j ks (inl (eqb-true p c e, refl, refl)) in here (class (j .sort)) (h .0) e (h .2) (h .1)))
       (λ e. go (class (j .sort)) e (label-same (j .sort) (pieces (edited c F ks)) (pieces ks) (name-edited ks)) (parts-edited G ks (λ i us a. k i us (inr (inl a)))) (parts-edited G ts (λ i us a. k i us (inr (inr a)))))
     where
       here : (x : Class) → x ≡ value → eqb p c ≡ true → labelOf (j .sort) (pieces (F ks)) ≡ labelOf (j .sort) (pieces ks) → parts (F ks) ≡ G (parts ks)
-        → partsAt x (handle p j) (labelOf (j .sort) (pieces (F ks))) (parts (F ks)) (parts ts) ≡ changed c G (partsAt x (handle p j) (labelOf (j .sort) (pieces ks)) (parts ks) (parts ts))
+          → partsAt x (handle p j) (labelOf (j .sort) (pieces (F ks))) (parts (F ks)) (parts ts) ≡ changed c G (partsAt x (handle p j) (labelOf (j .sort) (pieces ks)) (parts ks) (parts ts))
       here (gap g) z e l h = (let q : _≡_ {A = ℕ} 0 1 = cc in absurd (omega arith))
       here (mark m) z e l h = (let q : _≡_ {A = ℕ} 0 1 = cc in absurd (omega arith))
       here value z e l h =
           ap (λ y. part (handle p j) y (parts (F ks)) (parts ts)) l ∙ (ap (λ y. part (handle p j) (labelOf (j .sort) (pieces ks)) y (parts ts)) h
           ∙ sym (cond-true (eqb p c) (part (handle p j) (labelOf (j .sort) (pieces ks)) (G (parts ks)) (parts ts)) (part (handle p j) (labelOf (j .sort) (pieces ks)) (changed c G (parts ks)) (changed c G (parts ts))) e))
+
       go : (x : Class) → eqb p c ≡ false → labelOf (j .sort) (pieces (edited c F ks)) ≡ labelOf (j .sort) (pieces ks) → parts (edited c F ks) ≡ changed c G (parts ks) → parts (edited c F ts) ≡ changed c G (parts ts)
-        → partsAt x (handle p j) (labelOf (j .sort) (pieces (edited c F ks))) (parts (edited c F ks)) (parts (edited c F ts)) ≡ changed c G (partsAt x (handle p j) (labelOf (j .sort) (pieces ks)) (parts ks) (parts ts))
+          → partsAt x (handle p j) (labelOf (j .sort) (pieces (edited c F ks))) (parts (edited c F ks)) (parts (edited c F ts)) ≡ changed c G (partsAt x (handle p j) (labelOf (j .sort) (pieces ks)) (parts ks) (parts ts))
       go (gap g) e l h r = r
       go (mark m) e l h r = r
       go value e l h r =
@@ -124,21 +125,24 @@ module _ (c : ℕ) (F : Nodes → Nodes) where
   comments-around end o w k = absurd (omega arith)
   comments-around (node p j ks ts) o w k =
       by-edit c F (λ d s. Around (comments (node p j ks ts)) (comments s) (comments d) (comments (F s))) p j ks ts o
-        (λ e a b. (let v = k j ks (inl (e, refl, refl)) in record
-          { before = []
-          ; behind = comments ts
-          ; was = ap (λ y. remarksOf y (comments ks) ++ comments ts) v
-          ; is = ap (λ y. remarksOf y (comments (F ks)) ++ comments ts) v }))
-        (λ d a b. (let v = full-value (j .sort) ks (w .0) (omega arith) in let m = comments-around ks a (w .1) (λ i us z. k i us (inr (inl z))) in record
-          { before = m .before
-          ; behind = m .behind ++ comments ts
-          ; was = ap (λ y. remarksOf y (comments ks) ++ comments ts) v ∙ (ap (λ y. y ++ comments ts) (m .was) ∙ simp append-assoc)
-          ; is = ap (λ y. remarksOf y (comments (edited c F ks)) ++ comments ts) v ∙ (ap (λ y. y ++ comments ts) (m .is) ∙ simp append-assoc) }))
-        (λ d a b. (let m = comments-around ts b (w .2) (λ i us z. k i us (inr (inr z))) in record
-          { before = remarksOf (class (j .sort)) (comments ks) ++ m .before
-          ; behind = m .behind
-          ; was = ap (λ y. remarksOf (class (j .sort)) (comments ks) ++ y) (m .was) ∙ sym (append-assoc (remarksOf (class (j .sort)) (comments ks)) (m .before) (comments (kids c ts) ++ m .behind))
-          ; is = ap (λ y. remarksOf (class (j .sort)) (comments ks) ++ y) (m .is) ∙ sym (append-assoc (remarksOf (class (j .sort)) (comments ks)) (m .before) (comments (F (kids c ts)) ++ m .behind)) }))
+      (λ e a b. (let v = k j ks (inl (e, refl, refl)) in record {
+        before = [];
+        behind = comments ts;
+        was = ap (λ y. remarksOf y (comments ks) ++ comments ts) v;
+        is = ap (λ y. remarksOf y (comments (F ks)) ++ comments ts) v;
+      }))
+      (λ d a b. (let v = full-value (j .sort) ks (w .0) (omega arith) in let m = comments-around ks a (w .1) (λ i us z. k i us (inr (inl z))) in record {
+        before = m .before;
+        behind = m .behind ++ comments ts;
+        was = ap (λ y. remarksOf y (comments ks) ++ comments ts) v ∙ (ap (λ y. y ++ comments ts) (m .was) ∙ simp append-assoc);
+        is = ap (λ y. remarksOf y (comments (edited c F ks)) ++ comments ts) v ∙ (ap (λ y. y ++ comments ts) (m .is) ∙ simp append-assoc);
+      }))
+      (λ d a b. (let m = comments-around ts b (w .2) (λ i us z. k i us (inr (inr z))) in record {
+        before = remarksOf (class (j .sort)) (comments ks) ++ m .before;
+        behind = m .behind;
+        was = ap (λ y. remarksOf (class (j .sort)) (comments ks) ++ y) (m .was) ∙ sym (append-assoc (remarksOf (class (j .sort)) (comments ks)) (m .before) (comments (kids c ts) ++ m .behind));
+        is = ap (λ y. remarksOf (class (j .sort)) (comments ks) ++ y) (m .is) ∙ sym (append-assoc (remarksOf (class (j .sort)) (comments ks)) (m .before) (comments (F (kids c ts)) ++ m .behind));
+      }))
 
 -- where c stands once, its data and children are one
 pub at-count : (c : ℕ) (j : Own) (ks : Nodes) (ts : Nodes) → At c j ks ts → 0 < count c ts

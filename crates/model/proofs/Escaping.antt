@@ -16,9 +16,10 @@ use Rattle.model.specs.Escapes.{hexDigit, unicode, control, byteEscaped, contr
 -- a class of one range
 in-range : (a b x : ℕ) → within ((a, b) ∷ []) x ≡ true → (a ≤ x) × (x ≤ b)
 in-range a b x h =
-    elim (or-cases (leb a x && leb x b) false h)
-      [ inl e ↦ (let k = and-parts (leb a x) (leb x b) e in (leb-true a x (k .0), leb-true x b (k .1)))
-      | inr e ↦ absurd (false≢true e) ]
+    elim (or-cases (leb a x && leb x b) false h) [
+      | inl e ↦ (let k = and-parts (leb a x) (leb x b) e in (leb-true a x (k .0), leb-true x b (k .1)))
+      | inr e ↦ absurd (false≢true e)
+    ]
 
 range-in : (a b x : ℕ) (c : Class) → a ≤ x → x ≤ b → within ((a, b) ∷ c) x ≡ true
 range-in a b x c h k = or-left (leb a x && leb x b) (within c x) (and-from (leb a x) (leb x b) (le-leb a x h) (le-leb x b k))
@@ -28,8 +29,8 @@ range-later a b x c h = or-right (leb a x && leb x b) (within c x) h
 
 -- what may be said of how a byte is escaped
 byte-ways : (P : List ℕ → Type 0) (b : ℕ)
-  → (b ≡ 34 → P (92 ∷ 34 ∷ [])) → (b ≡ 92 → P (92 ∷ 92 ∷ [])) → (b ≡ 8 → P (92 ∷ 98 ∷ [])) → (b ≡ 12 → P (92 ∷ 102 ∷ [])) → (b ≡ 10 → P (92 ∷ 110 ∷ [])) → (b ≡ 13 → P (92 ∷ 114 ∷ [])) → (b ≡ 9 → P (92 ∷ 116 ∷ []))
-  → (control b ≡ true → P (unicode b)) → ((b ≡ 34 → ⊥) → (b ≡ 92 → ⊥) → control b ≡ false → P (b ∷ [])) → P (byteEscaped b)
+    → (b ≡ 34 → P (92 ∷ 34 ∷ [])) → (b ≡ 92 → P (92 ∷ 92 ∷ [])) → (b ≡ 8 → P (92 ∷ 98 ∷ [])) → (b ≡ 12 → P (92 ∷ 102 ∷ [])) → (b ≡ 10 → P (92 ∷ 110 ∷ [])) → (b ≡ 13 → P (92 ∷ 114 ∷ [])) → (b ≡ 9 → P (92 ∷ 116 ∷ []))
+    → (control b ≡ true → P (unicode b)) → ((b ≡ 34 → ⊥) → (b ≡ 92 → ⊥) → control b ≡ false → P (b ∷ [])) → P (byteEscaped b)
 byte-ways P b q s bs ff lf cr tab con rest =
     cond-both (eqb b 34) _ _ P (λ e. q (eqb-true b 34 e)) (λ n34.
     cond-both (eqb b 92) _ _ P (λ e. s (eqb-true b 92 e)) (λ n92.
@@ -66,11 +67,13 @@ byte-char b h = byte-ways StringChar b (λ e. escape 34 refl) (λ e. escape 92 r
     (λ e. unicode-char b (omega arith)) (λ q s n. unescaped (one b (plain q s (control-not b n))))
   where
     plain : (b ≡ 34 → ⊥) → (b ≡ 92 → ⊥) → 32 ≤ b → within Plain b ≡ true
-    plain q s n = elim (cases-bool (leb b 33))
-        [ inl e ↦ range-in 32 33 b ((35, 91) ∷ (93, 127) ∷ []) n (leb-true b 33 e)
-        | inr e ↦ elim (cases-bool (leb b 91))
-            [ inl f ↦ (let x = leb-false b 33 e in let y = leb-true b 91 f in range-later 32 33 b ((35, 91) ∷ (93, 127) ∷ []) (range-in 35 91 b ((93, 127) ∷ []) (omega (arith, q)) y))
-            | inr f ↦ (let y = leb-false b 91 f in range-later 32 33 b ((35, 91) ∷ (93, 127) ∷ []) (range-later 35 91 b ((93, 127) ∷ []) (range-in 93 127 b [] (omega (arith, s)) h))) ] ]
+    plain q s n = elim (cases-bool (leb b 33)) [
+      | inl e ↦ range-in 32 33 b ((35, 91) ∷ (93, 127) ∷ []) n (leb-true b 33 e)
+      | inr e ↦ elim (cases-bool (leb b 91)) [
+        | inl f ↦ (let x = leb-false b 33 e in let y = leb-true b 91 f in range-later 32 33 b ((35, 91) ∷ (93, 127) ∷ []) (range-in 35 91 b ((93, 127) ∷ []) (omega (arith, q)) y))
+        | inr f ↦ (let y = leb-false b 91 f in range-later 32 33 b ((35, 91) ∷ (93, 127) ∷ []) (range-later 35 91 b ((93, 127) ∷ []) (range-in 93 127 b [] (omega (arith, s)) h)))
+      ]
+    ]
 
 -- a byte that begins no control character of two bytes
 pub escaped-byte : (b : ℕ) (t : List ℕ) → (b ≡ 194 → ⊥) → escaped (b ∷ t) ≡ byteEscaped b ++ escaped t
@@ -125,10 +128,11 @@ within-tail a b x h k e = let r = in-range a b x e in range-in 128 191 x [] (ome
 multi-wrote : {u : List ℕ} (t : List ℕ) → Multi u → Wrote u t
 multi-wrote t (two a b h k) =
     let ha = in-range 194 223 a h in let hb = tail b k in
-    elim (cases-bool (controlPair a b))
-      [ inl e ↦ (let p = and-parts (eqb a 194) (leb 128 b && leb b 159) e in let q = and-parts (leb 128 b) (leb b 159) (p .1) in
+    elim (cases-bool (controlPair a b)) [
+      | inl e ↦ (let p = and-parts (eqb a 194) (leb 128 b && leb b 159) e in let q = and-parts (leb 128 b) (leb b 159) (p .1) in
           record { bytes = unicode b; how = as-unicode b (ap (λ x. x ∷ b ∷ []) (eqb-true a 194 (p .0))) (hb .0) (leb-true b 159 (q .1)); is = escaped-control a b t e })
-      | inr e ↦ same (a ∷ b ∷ []) t (escaped-pair a b t (omega arith) e ∙ ap (λ w. a ∷ w) (escaped-high b t (hb .0) (λ z. omega arith))) ]
+      | inr e ↦ same (a ∷ b ∷ []) t (escaped-pair a b t (omega arith) e ∙ ap (λ w. a ∷ w) (escaped-high b t (hb .0) (λ z. omega arith)))
+    ]
 multi-wrote t (three-E0 b c h k) = three 224 b c t (omega arith) (within-tail 160 191 b (omega arith) (omega arith) h) k
 multi-wrote t (three-E1 a b c h k l) = let ha = in-range 225 236 a h in three a b c t (omega arith) k l
 multi-wrote t (three-ED b c h k) = three 237 b c t (omega arith) (within-tail 128 159 b (omega arith) (omega arith) h) k
@@ -157,10 +161,10 @@ unicode-said n x h =
     let a = hex-value (n / 16) (omega arith) in
     let b = hex-value (n % 16) (omega arith) in
     let e : (0 * 16 + hexValue (hexDigit (n / 16))) * 16 + hexValue (hexDigit (n % 16)) ≡ n =
-          ap (λ y. (0 * 16 + y) * 16 + hexValue (hexDigit (n % 16))) a ∙ (ap (λ y. (0 * 16 + n / 16) * 16 + y) b ∙ omega arith) in
+    ap (λ y. (0 * 16 + y) * 16 + hexValue (hexDigit (n % 16))) a ∙ (ap (λ y. (0 * 16 + n / 16) * 16 + y) b ∙ omega arith) in
     ap (λ m. unit 0 m (decodedFrom x)) e
-      ∙ (cond-false (firstHalf n) _ _ (and-left (leb 55296 n) (leb n 56319) (lt-leb 55296 n (omega arith)))
-      ∙ cond-false (secondHalf n) _ _ (and-left (leb 56320 n) (leb n 57343) (lt-leb 56320 n (omega arith))))
+    ∙ (cond-false (firstHalf n) _ _ (and-left (leb 55296 n) (leb n 56319) (lt-leb 55296 n (omega arith)))
+    ∙ cond-false (secondHalf n) _ _ (and-left (leb 56320 n) (leb n 57343) (lt-leb 56320 n (omega arith))))
 
 utf8-one : (n : ℕ) → n < 128 → utf8 n ≡ n ∷ []
 utf8-one n h = cond-true (ltb n 128) _ _ (lt-ltb n 128 h)

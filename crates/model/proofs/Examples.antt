@@ -128,7 +128,7 @@ entry k b s n u v c =
     record { kind = k; boolean = b; text-start = s; text-length = n; name-start = u; name-length = v; children = c }
 
 table-means : tableMeaning (entry 5 9 9 9 9 9 2 ∷ entry 4 0 0 0 0 1 2 ∷ entry 2 0 1 2 0 0 0 ∷ entry 1 1 0 0 0 0 0 ∷ entry 3 0 0 1 3 1 0 ∷ []) (codes "x12y")
-  ≡ textValue (codes "{\"x\": [12, true], \"y\": \"x\"}")
+    ≡ textValue (codes "{\"x\": [12, true], \"y\": \"x\"}")
 table-means = refl
 
 ends-early : badRow (entry 4 0 0 0 0 0 1 ∷ []) [] ≡ Some 1
@@ -167,15 +167,18 @@ abbrev self : Value → Value
 self v = v
 
 removed-account : accountOf self (given (load 30 60 (codes "[1, // one\n 2]"))) (Do (Remove (at 3 4)) (work 0 0) ∷ [])
-  ≡ record { value = part (at 1 2) Array (part (at 9 10) (Numeral (codes "2")) nil nil) nil; comments = []; left = at 3 4 ∷ [] }
+    ≡ record { value = part (at 1 2) Array (part (at 9 10) (Numeral (codes "2")) nil nil) nil; comments = []; left = at 3 4 ∷ [] }
 removed-account = refl
 
 replaced-account : accountOf self (given (load 30 60 (codes "[1 /* a */, [2 /* b */]]"))) (Do (Replace (at 8 9) nullValue) (work 30 64) ∷ [])
-  ≡ record { value = part (at 1 2) Array (part (at 3 4) (Numeral (codes "1")) nil (part (at 13 16) Null nil nil)) nil
-           ; comments = Block (codes "/* a */") ∷ []; left = at 8 9 ∷ at 10 11 ∷ [] }
+    ≡ record {
+      value = part (at 1 2) Array (part (at 3 4) (Numeral (codes "1")) nil (part (at 13 16) Null nil nil)) nil;
+      comments = Block (codes "/* a */") ∷ [];
+      left = at 8 9 ∷ at 10 11 ∷ [];
+    }
 replaced-account = refl
 
 -- a refused call changes nothing
 refused-account : accountOf self (given (load 30 60 (codes "[1]"))) (Do (Remove rootHandle) (work 0 0) ∷ Print 0 ∷ [])
-  ≡ record { value = part (at 1 2) Array (part (at 3 4) (Numeral (codes "1")) nil nil) nil; comments = []; left = [] }
+    ≡ record { value = part (at 1 2) Array (part (at 3 4) (Numeral (codes "1")) nil nil) nil; comments = []; left = [] }
 refused-account = refl

@@ -58,40 +58,40 @@ sown-ends f q r s a ts g e = subst (Ends f) (sym (run-append q (sown s a) ts ∙
 -- EXCHANGE
 
 exchanged-fits : (f : Owner) (s : Supply) (a : Pieces) (bs : Nodes) (p : ℕ) (i : Own) (ks ts : Nodes) → Stands a → class (i .sort) ≡ value → role (i .sort) ≡ element
-  → Fits f (onto bs (node p i ks ts)) → Whole (onto bs (node p i ks ts)) → Fits f (onto bs (append (sown s a) ts)) × Whole (onto bs (append (sown s a) ts))
+    → Fits f (onto bs (node p i ks ts)) → Whole (onto bs (node p i ks ts)) → Fits f (onto bs (append (sown s a) ts)) × Whole (onto bs (append (sown s a) ts))
 exchanged-fits f s a bs p i ks ts g v o h w =
     let k = onto-each (Kept f) bs (node p i ks ts) (each-kept f (onto bs (node p i ks ts)) (h .taken) w) in
     let q = back (begin f) bs in
     let e : Ends f (run (step q value) ts) = subst (λ c. Ends f (run (step q c) ts)) v (subst (Ends f) (run-onto (begin f) bs (node p i ks ts)) (h .ends)) in
     let m : Goes f q (step q value) a = g f q (step q value) (subst (λ y. takes f y ≡ true) o (k .1 .0 .0)) refl in
     kept-fits f (onto bs (append (sown s a) ts)) (subst (Ends f) (sym (run-onto (begin f) bs (append (sown s a) ts))) (sown-ends f q (step q value) s a ts m e))
-      (each-onto (Kept f) bs (append (sown s a) ts) (k .0) (each-append (Kept f) (sown s a) ts (each-sown f s a (m .taken) (m .whole)) (k .1 .1)))
+    (each-onto (Kept f) bs (append (sown s a) ts) (k .0) (each-append (Kept f) (sown s a) ts (each-sown f s a (m .taken) (m .whole)) (k .1 .1)))
 
 -- a value in the place of a value keeps the child list
 pub exchange-fits : (f : Owner) (k : ℕ) (s : Supply) (a : Pieces) (ts : Nodes) → Stands a → ((i : Own) (ks : Nodes) → At k i ks ts → (class (i .sort) ≡ value) × (role (i .sort) ≡ element))
-  → Fits f ts → Whole ts → Fits f (local (exchanged (sown s a)) k ts) × Whole (local (exchanged (sown s a)) k ts)
+    → Fits f ts → Whole ts → Fits f (local (exchanged (sown s a)) k ts) × Whole (local (exchanged (sown s a)) k ts)
 exchange-fits f k s a ts g v h w = local-ways (λ y. Fits f y × Whole y) (exchanged (sown s a)) k end ts (h, w)
     (λ cs p i ks us e z. (let x = v i ks (subst (λ y. At y i ks ts) z (at-here cs p i ks us ts e)) in
-      exchanged-fits f s a cs p i ks us g (x .0) (x .1) (subst (Fits f) (sym e) h) (subst Whole (sym e) w)))
+    exchanged-fits f s a cs p i ks us g (x .0) (x .1) (subst (Fits f) (sym e) h) (subst Whole (sym e) w)))
 
 parts-append : (us ts : Nodes) → parts (append us ts) ≡ chain (parts us) (parts ts)
 parts-append end ts = refl
 parts-append (node p i ks us) ts = go (class (i .sort)) (parts-append us ts)
   where
     go : (c : Class) → parts (append us ts) ≡ chain (parts us) (parts ts)
-      → partsAt c (handle p i) (labelOf (i .sort) (pieces ks)) (parts ks) (parts (append us ts)) ≡ chain (partsAt c (handle p i) (labelOf (i .sort) (pieces ks)) (parts ks) (parts us)) (parts ts)
+        → partsAt c (handle p i) (labelOf (i .sort) (pieces ks)) (parts ks) (parts (append us ts)) ≡ chain (partsAt c (handle p i) (labelOf (i .sort) (pieces ks)) (parts ks) (parts us)) (parts ts)
     go (gap g) h = h
     go (mark m) h = h
     go value h = ap (part (handle p i) (labelOf (i .sort) (pieces ks)) (parts ks)) h
 
 swapped-at : (k p : ℕ) (v : Parts Handle) (i : Own) (ks ts : Nodes) → eqb p k ≡ false → (c : Class)
-  → partsAt c (handle p i) (labelOf (i .sort) (pieces ks)) (parts ks) (swapped k v (parts ts)) ≡ swapped k v (partsAt c (handle p i) (labelOf (i .sort) (pieces ks)) (parts ks) (parts ts))
+    → partsAt c (handle p i) (labelOf (i .sort) (pieces ks)) (parts ks) (swapped k v (parts ts)) ≡ swapped k v (partsAt c (handle p i) (labelOf (i .sort) (pieces ks)) (parts ks) (parts ts))
 swapped-at k p v i ks ts e (gap g) = refl
 swapped-at k p v i ks ts e (mark m) = refl
 swapped-at k p v i ks ts e value = sym (cond-false (eqb p k) (chain v (parts ts)) (part (handle p i) (labelOf (i .sort) (pieces ks)) (parts ks) (swapped k v (parts ts))) e)
 
 swapped-here : (k p : ℕ) (v : Parts Handle) (i : Own) (ks ts : Nodes) → eqb p k ≡ true → (c : Class) → c ≡ value
-  → swapped k v (partsAt c (handle p i) (labelOf (i .sort) (pieces ks)) (parts ks) (parts ts)) ≡ chain v (parts ts)
+    → swapped k v (partsAt c (handle p i) (labelOf (i .sort) (pieces ks)) (parts ks) (parts ts)) ≡ chain v (parts ts)
 swapped-here k p v i ks ts e (gap g) z = (let y : _≡_ {A = ℕ} 0 1 = cc in absurd (omega arith))
 swapped-here k p v i ks ts e (mark m) z = (let y : _≡_ {A = ℕ} 0 1 = cc in absurd (omega arith))
 swapped-here k p v i ks ts e value z = cond-true (eqb p k) (chain v (parts ts)) (part (handle p i) (labelOf (i .sort) (pieces ks)) (parts ks) (swapped k v (parts ts))) e
@@ -135,46 +135,46 @@ before-ready end n l h e = record { moved = refl; taken = tt; whole = tt }
 before-ready (node p i ks bs) n l h e = cond-both (isRemark (class (i .sort))) (leaf (newline n) no-pieces) no-pieces (Ready (back (begin top) (node p i ks bs)))
     (λ z. record { moved = ap (λ y. step y (gap break)) e ∙ break-items l; taken = (refl, tt); whole = (tt, tt) })
     (λ z. (let g = h .0 .0 in let c = h .0 .1 in
-      let v = gap-inv (back (begin top) bs) g items l (ap (step (back (begin top) bs)) (sym c) ∙ e) in
-      record { moved = e ∙ ap (here items) (is-remark g (v .0) l (ap isRemark (sym c) ∙ z) (v .2)); taken = tt; whole = tt }))
+    let v = gap-inv (back (begin top) bs) g items l (ap (step (back (begin top) bs)) (sym c) ∙ e) in
+    record { moved = e ∙ ap (here items) (is-remark g (v .0) l (ap isRemark (sym c) ∙ z) (v .2)); taken = tt; whole = tt }))
 
 put-ends : (bs : Nodes) (n : Break) (s t u : Supply) (a y : Pieces) (ts : Nodes) (l : Bool) → Stands a → Each Trivial bs → back (begin top) bs ≡ here items l → Ends top (run (here next false) (append (sown u y) ts))
-  → Ends top (run (begin top) (onto bs (append (sown s (breakBefore bs n)) (append (sown t a) (append (sown u y) ts)))))
+    → Ends top (run (begin top) (onto bs (append (sown s (breakBefore bs n)) (append (sown t a) (append (sown u y) ts)))))
 put-ends bs n s t u a y ts l g h e d =
     let r = before-ready bs n l h e in
     let q = back (begin top) bs in
     let m : Goes top (here items false) (here next false) a = g top (here items false) (here next false) refl refl in
     subst (Ends top) (sym (run-onto (begin top) bs (append (sown s (breakBefore bs n)) (append (sown t a) (append (sown u y) ts)))))
-      (sown-ends top q (here items false) s (breakBefore bs n) (append (sown t a) (append (sown u y) ts)) (record { moves = r .moved; taken = r .taken; whole = r .whole })
-        (sown-ends top (here items false) (here next false) t a (append (sown u y) ts) m d))
+    (sown-ends top q (here items false) s (breakBefore bs n) (append (sown t a) (append (sown u y) ts)) (record { moves = r .moved; taken = r .taken; whole = r .whole })
+    (sown-ends top (here items false) (here next false) t a (append (sown u y) ts) m d))
 
 put-each : (bs : Nodes) (n : Break) (s t u : Supply) (a y : Pieces) (ts : Nodes) (l : Bool) → Stands a → Each Trivial bs → back (begin top) bs ≡ here items l → TakenP top y → WholeP y → Each (Kept top) bs → Each (Kept top) ts
-  → Each (Kept top) (onto bs (append (sown s (breakBefore bs n)) (append (sown t a) (append (sown u y) ts))))
+    → Each (Kept top) (onto bs (append (sown s (breakBefore bs n)) (append (sown t a) (append (sown u y) ts))))
 put-each bs n s t u a y ts l g h e c w kb kt =
     let r = before-ready bs n l h e in
     let m : Goes top (here items false) (here next false) a = g top (here items false) (here next false) refl refl in
     each-onto (Kept top) bs (append (sown s (breakBefore bs n)) (append (sown t a) (append (sown u y) ts))) kb
-      (each-append (Kept top) (sown s (breakBefore bs n)) (append (sown t a) (append (sown u y) ts)) (each-sown top s (breakBefore bs n) (r .taken) (r .whole))
-        (each-append (Kept top) (sown t a) (append (sown u y) ts) (each-sown top t a (m .taken) (m .whole)) (each-append (Kept top) (sown u y) ts (each-sown top u y c w) kt)))
+    (each-append (Kept top) (sown s (breakBefore bs n)) (append (sown t a) (append (sown u y) ts)) (each-sown top s (breakBefore bs n) (r .taken) (r .whole))
+    (each-append (Kept top) (sown t a) (append (sown u y) ts) (each-sown top t a (m .taken) (m .whole)) (each-append (Kept top) (sown u y) ts (each-sown top u y c w) kt)))
 
 put-fits : (bs : Nodes) (n : Break) (a : Pieces) (s : Supply) (l : Bool) → Stands a → Each Trivial bs → Each (Kept top) bs → back (begin top) bs ≡ here items l → Fits top (rootPut (cutAt bs) n a s) × Whole (rootPut (cutAt bs) n a s)
 put-fits end n a s l g h k e =
     kept-fits top (rootPut (cutAt end) n a s)
-      (put-ends end n s (skip (0 + 1) s) (skip 0 s) a (leaf (newline n) no-pieces) end l g tt e tt)
-      (put-each end n s (skip (0 + 1) s) (skip 0 s) a (leaf (newline n) no-pieces) end l g tt e (refl, tt) (tt, tt) tt tt)
+    (put-ends end n s (skip (0 + 1) s) (skip 0 s) a (leaf (newline n) no-pieces) end l g tt e tt)
+    (put-each end n s (skip (0 + 1) s) (skip 0 s) a (leaf (newline n) no-pieces) end l g tt e (refl, tt) (tt, tt) tt tt)
 put-fits (node p i ks bs) n a s l g h k e =
     cond-both (isBreak (class (i .sort))) (record { before = bs; after = node p i ks end }) (record { before = node p i ks bs; after = end }) (λ c. Fits top (rootPut c n a s) × Whole (rootPut c n a s))
-      (λ z. (let x = h .0 .0 in let c = h .0 .1 in
-        let v = gap-inv (back (begin top) bs) x items l (ap (step (back (begin top) bs)) (sym c) ∙ e) in
-        let X : Pieces = breakBefore bs n in
-        let d : Ends top (run (here next false) (node p i ks end)) = subst (λ y. Ends top (step (here next false) y)) (sym c) (after-break x (ap isBreak (sym c) ∙ z)) in
-        kept-fits top (rootPut (record { before = bs; after = node p i ks end }) n a s)
-          (put-ends bs n s (skip (nodes X + 0) s) (skip (nodes X) s) a no-pieces (node p i ks end) (v .0) g (h .1) (v .1) d)
-          (put-each bs n s (skip (nodes X + 0) s) (skip (nodes X) s) a no-pieces (node p i ks end) (v .0) g (h .1) (v .1) tt tt (k .1) (k .0, tt))))
-      (λ z. (let X : Pieces = breakBefore (node p i ks bs) n in
-        kept-fits top (rootPut (record { before = node p i ks bs; after = end }) n a s)
-          (put-ends (node p i ks bs) n s (skip (nodes X + 1) s) (skip (nodes X) s) a (leaf (newline n) no-pieces) end l g h e tt)
-          (put-each (node p i ks bs) n s (skip (nodes X + 1) s) (skip (nodes X) s) a (leaf (newline n) no-pieces) end l g h e (refl, tt) (tt, tt) k tt)))
+    (λ z. (let x = h .0 .0 in let c = h .0 .1 in
+    let v = gap-inv (back (begin top) bs) x items l (ap (step (back (begin top) bs)) (sym c) ∙ e) in
+    let X : Pieces = breakBefore bs n in
+    let d : Ends top (run (here next false) (node p i ks end)) = subst (λ y. Ends top (step (here next false) y)) (sym c) (after-break x (ap isBreak (sym c) ∙ z)) in
+    kept-fits top (rootPut (record { before = bs; after = node p i ks end }) n a s)
+    (put-ends bs n s (skip (nodes X + 0) s) (skip (nodes X) s) a no-pieces (node p i ks end) (v .0) g (h .1) (v .1) d)
+    (put-each bs n s (skip (nodes X + 0) s) (skip (nodes X) s) a no-pieces (node p i ks end) (v .0) g (h .1) (v .1) tt tt (k .1) (k .0, tt))))
+    (λ z. (let X : Pieces = breakBefore (node p i ks bs) n in
+    kept-fits top (rootPut (record { before = node p i ks bs; after = end }) n a s)
+    (put-ends (node p i ks bs) n s (skip (nodes X + 1) s) (skip (nodes X) s) a (leaf (newline n) no-pieces) end l g h e tt)
+    (put-each (node p i ks bs) n s (skip (nodes X + 1) s) (skip (nodes X) s) a (leaf (newline n) no-pieces) end l g h e (refl, tt) (tt, tt) k tt)))
   where
     after-break : (x : Gap) → isBreak (gap x) ≡ true → Ends top (step (here next false) (gap x))
     after-break blank z = absurd (false≢true z)
@@ -187,7 +187,7 @@ trivial-items (node p i ks ts) l h e = go (h .0 .0) (h .0 .1) (λ k. trivial-ite
   where
     go : (g : Gap) → class (i .sort) ≡ gap g → ((k : Bool) → Ends top (run (here items k) ts) → (j : Bool) × (run (here items k) ts ≡ here items j)) → (j : Bool) × (run (step (here items l) (class (i .sort))) ts ≡ here items j)
     go g c r = (let d : Ends top (run (gapped items l g) ts) = subst (λ y. Ends top (run (step (here items l) y) ts)) c e in
-      let m = at l g d r in (m .0, ap (λ y. run (step (here items l) y) ts) c ∙ m .1))
+        let m = at l g d r in (m .0, ap (λ y. run (step (here items l) y) ts) c ∙ m .1))
       where
         at : (l : Bool) (g : Gap) → Ends top (run (gapped items l g) ts) → ((k : Bool) → Ends top (run (here items k) ts) → (j : Bool) × (run (here items k) ts ≡ here items j)) → (j : Bool) × (run (gapped items l g) ts ≡ here items j)
         at true blank d r = absurd (no-dead top ts d)

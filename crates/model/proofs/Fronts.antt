@@ -49,16 +49,17 @@ module _ (G : Layout → List ℕ → Type 0) where
 
   module _ (a : Pieces) (m : Front G a) where
     pub space-on : (v : List ℕ) → All Blank v → Front G (leaf (whitespace v) a)
-    space-on v h = record
-      { last = m .last
-      ; between = m .between
-      ; bytes = v ++ m .bytes
-      ; trivia = blanks-on (m .last) (m .between) v (m .bytes) h (m .trivia)
-      ; then = m .then
-      ; tail = m .tail
-      ; head = m .head
-      ; laid = m .laid
-      ; printed = ap (λ y. v ++ y) (m .printed) ∙ sym (append-assoc v (m .bytes) (m .tail)) }
+    space-on v h = record {
+      last = m .last;
+      between = m .between;
+      bytes = v ++ m .bytes;
+      trivia = blanks-on (m .last) (m .between) v (m .bytes) h (m .trivia);
+      then = m .then;
+      tail = m .tail;
+      head = m .head;
+      laid = m .laid;
+      printed = ap (λ y. v ++ y) (m .printed) ∙ sym (append-assoc v (m .bytes) (m .tail));
+    }
 
     break-trivia : (k : Break) → Trivia (m .last) (broken (m .between)) (breakBytes k ++ m .bytes)
     break-trivia line-feed = newline 10 refl (m .trivia)
@@ -66,28 +67,30 @@ module _ (G : Layout → List ℕ → Type 0) where
     break-trivia both = subst (λ y. Trivia (m .last) y (13 ∷ 10 ∷ m .bytes)) (broken-twice (m .between)) (newline 13 refl (newline 10 refl (m .trivia)))
 
     pub break-on : (k : Break) → Front G (leaf (break k) a)
-    break-on k = record
-      { last = m .last
-      ; between = broken (m .between)
-      ; bytes = breakBytes k ++ m .bytes
-      ; trivia = break-trivia k
-      ; then = m .then
-      ; tail = m .tail
-      ; head = m .head
-      ; laid = λ b. m .laid true ∙ ap (λ y. after y (m .then)) (sym (flag-broken b (m .between)))
-      ; printed = ap (λ y. breakBytes k ++ y) (m .printed) ∙ sym (append-assoc (breakBytes k) (m .bytes) (m .tail)) }
+    break-on k = record {
+      last = m .last;
+      between = broken (m .between);
+      bytes = breakBytes k ++ m .bytes;
+      trivia = break-trivia k;
+      then = m .then;
+      tail = m .tail;
+      head = m .head;
+      laid = λ b. m .laid true ∙ ap (λ y. after y (m .then)) (sym (flag-broken b (m .between)));
+      printed = ap (λ y. breakBytes k ++ y) (m .printed) ∙ sym (append-assoc (breakBytes k) (m .bytes) (m .tail));
+    }
 
     pub block-on : (t : List ℕ) → BlockComment t → Front G (leaf (comment (Block t)) a)
-    block-on t h = record
-      { last = m .last
-      ; between = remark false (Block t) (m .between)
-      ; bytes = t ++ m .bytes
-      ; trivia = block-comment h (m .trivia)
-      ; then = m .then
-      ; tail = m .tail
-      ; head = m .head
-      ; laid = λ b. ap (note b (Block t)) (m .laid false) ∙ sym (after-remark b (Block t) (m .between) (m .then))
-      ; printed = ap (λ y. t ++ y) (m .printed) ∙ sym (append-assoc t (m .bytes) (m .tail)) }
+    block-on t h = record {
+      last = m .last;
+      between = remark false (Block t) (m .between);
+      bytes = t ++ m .bytes;
+      trivia = block-comment h (m .trivia);
+      then = m .then;
+      tail = m .tail;
+      head = m .head;
+      laid = λ b. ap (note b (Block t)) (m .laid false) ∙ sym (after-remark b (Block t) (m .between) (m .then));
+      printed = ap (λ y. t ++ y) (m .printed) ∙ sym (append-assoc t (m .bytes) (m .tail));
+    }
 
     line-trivia : (t : List ℕ) (k : Break) → LineComment t → Trivia (m .last) (remark false (Line t) (broken (m .between))) (t ++ (breakBytes k ++ m .bytes))
     line-trivia t line-feed h = line-comment 10 h refl (m .trivia)
@@ -96,55 +99,59 @@ module _ (G : Layout → List ℕ → Type 0) where
 
     -- a line comment and the Newline that ends it
     pub line-on : (t : List ℕ) (k : Break) → LineComment t → Front G (leaf (comment (Line t)) (leaf (break k) a))
-    line-on t k h = record
-      { last = m .last
-      ; between = remark false (Line t) (broken (m .between))
-      ; bytes = t ++ (breakBytes k ++ m .bytes)
-      ; trivia = line-trivia t k h
-      ; then = m .then
-      ; tail = m .tail
-      ; head = m .head
-      ; laid = λ b. ap (note b (Line t)) (m .laid true) ∙ sym (after-remark b (Line t) (broken (m .between)) (m .then))
-      ; printed = ap (λ y. t ++ (breakBytes k ++ y)) (m .printed) ∙ (ap (λ y. t ++ y) (sym (append-assoc (breakBytes k) (m .bytes) (m .tail))) ∙ sym (append-assoc t (breakBytes k ++ m .bytes) (m .tail))) }
+    line-on t k h = record {
+      last = m .last;
+      between = remark false (Line t) (broken (m .between));
+      bytes = t ++ (breakBytes k ++ m .bytes);
+      trivia = line-trivia t k h;
+      then = m .then;
+      tail = m .tail;
+      head = m .head;
+      laid = λ b. ap (note b (Line t)) (m .laid true) ∙ sym (after-remark b (Line t) (broken (m .between)) (m .then));
+      printed = ap (λ y. t ++ (breakBytes k ++ y)) (m .printed) ∙ (ap (λ y. t ++ y) (sym (append-assoc (breakBytes k) (m .bytes) (m .tail))) ∙ sym (append-assoc t (breakBytes k ++ m .bytes) (m .tail)));
+    }
 
   -- nothing more, at the end of the text
   pub stopped : ((g : Between) (s : List ℕ) → Trivia true g s → G (after g stop) s) → Front G end
-  stopped h = record
-    { last = true
-    ; between = quiet false
-    ; bytes = []
-    ; trivia = empty
-    ; then = stop
-    ; tail = []
-    ; head = λ g s t. subst (G (after g stop)) (sym (append-nil s)) (h g s t)
-    ; laid = λ b. sym (after-quiet b stop)
-    ; printed = refl }
+  stopped h = record {
+    last = true;
+    between = quiet false;
+    bytes = [];
+    trivia = empty;
+    then = stop;
+    tail = [];
+    head = λ g s t. subst (G (after g stop)) (sym (append-nil s)) (h g s t);
+    laid = λ b. sym (after-quiet b stop);
+    printed = refl;
+  }
 
   -- a line comment that is open at the end of the text
   pub stopped-open : ((g : Between) (s : List ℕ) → Trivia true g s → G (after g stop) s) → (t : List ℕ) → LineComment t → Front G (leaf (comment (Line t)) end)
-  stopped-open h t c = record
-    { last = true
-    ; between = remark false (Line t) (quiet false)
-    ; bytes = t
-    ; trivia = open-line refl c
-    ; then = stop
-    ; tail = []
-    ; head = λ g s z. subst (G (after g stop)) (sym (append-nil s)) (h g s z)
-    ; laid = λ b. sym (after-remark b (Line t) (quiet false) stop)
-    ; printed = refl }
+  stopped-open h t c = record {
+    last = true;
+    between = remark false (Line t) (quiet false);
+    bytes = t;
+    trivia = open-line refl c;
+    then = stop;
+    tail = [];
+    head = λ g s z. subst (G (after g stop)) (sym (append-nil s)) (h g s z);
+    laid = λ b. sym (after-remark b (Line t) (quiet false) stop);
+    printed = refl;
+  }
 
   -- no trivia: a lexeme
   pub lexeme : (a : Pieces) (k : Bool → Layout) (u : List ℕ) → ((b : Bool) → lay a b ≡ k b) → print a ≡ u → ((g : Between) (s : List ℕ) → Trivia false g s → G (after g k) (s ++ u)) → Front G a
-  lexeme a k u l p h = record
-    { last = false
-    ; between = quiet false
-    ; bytes = []
-    ; trivia = empty
-    ; then = k
-    ; tail = u
-    ; head = h
-    ; laid = λ b. l b ∙ sym (after-quiet b k)
-    ; printed = p }
+  lexeme a k u l p h = record {
+    last = false;
+    between = quiet false;
+    bytes = [];
+    trivia = empty;
+    then = k;
+    tail = u;
+    head = h;
+    laid = λ b. l b ∙ sym (after-quiet b k);
+    printed = p;
+  }
 
 -- where nothing is asked
 pub idle : (a : Pieces) → Front (λ _ _. Unit {0}) a

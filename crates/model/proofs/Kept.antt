@@ -42,8 +42,8 @@ module _ (c : ℕ) (F : Nodes → Nodes) (ts : Nodes) where
   comments-under k r = cond-both (eqb c 0) (F ts) (edited c F ts) (λ y. comments y ≡ comments ts) (λ e. r (eqb-true c 0 e)) (λ e. comments-edited c F ts k)
 
   pub parts-under : (G : Parts Handle → Parts Handle)
-    → ((j : Own) (ks : Nodes) → At c j ks ts → (class (j .sort) ≡ value) × (parts (F ks) ≡ G (parts ks)) × (labelOf (j .sort) (pieces (F ks)) ≡ labelOf (j .sort) (pieces ks)))
-    → (c ≡ 0 → parts (F ts) ≡ G (parts ts)) → parts (under c F ts) ≡ changedUnder c G (parts ts)
+      → ((j : Own) (ks : Nodes) → At c j ks ts → (class (j .sort) ≡ value) × (parts (F ks) ≡ G (parts ks)) × (labelOf (j .sort) (pieces (F ks)) ≡ labelOf (j .sort) (pieces ks)))
+      → (c ≡ 0 → parts (F ts) ≡ G (parts ts)) → parts (under c F ts) ≡ changedUnder c G (parts ts)
   parts-under G k r = go (eqb c 0) refl
     where
       go : (b : Bool) → eqb c 0 ≡ b → parts (cond b (F ts) (edited c F ts)) ≡ cond b (G (parts ts)) (changed c G (parts ts))

@@ -16,3 +16,8 @@ pub mod Writes
 pub mod Exchanges
 pub mod Kept
 pub mod Says
+pub mod Spots
+pub mod Indented
+pub mod Steps
+pub mod Fewer
+pub mod Lines

@@ -82,10 +82,11 @@ whole-join (leaf x r) b h k = (h .0, whole-join r b (h .1) k)
 whole-join (box x c r) b h k = (h .0, h .1, whole-join r b (h .2) k)
 
 pub on : (f : Owner) (q r s : State) (a b : Pieces) → Goes f q r a → Goes f r s b → Goes f q s (join a b)
-on f q r s a b h k = record
-  { moves = runs-join q a b ∙ (ap (λ y. runs y b) (h .moves) ∙ k .moves)
-  ; taken = taken-join f a b (h .taken) (k .taken)
-  ; whole = whole-join a b (h .whole) (k .whole) }
+on f q r s a b h k = record {
+  moves = runs-join q a b ∙ (ap (λ y. runs y b) (h .moves) ∙ k .moves);
+  taken = taken-join f a b (h .taken) (k .taken);
+  whole = whole-join a b (h .whole) (k .whole);
+}
 
 pub stay : (f : Owner) (q : State) → Goes f q q no-pieces
 stay f q = record { moves = refl; taken = tt; whole = tt }
@@ -115,8 +116,8 @@ module _ (f : Owner) (q : Pos) (z : loose q ≡ true) where
   closed-goes x {u = u} (a-block e h) = subst (Goes f (here q false) (here q false)) (sym e) (one-leaf f (here q false) (here q false) (comment (Block u)) (gap-goes false (remark (Block u))) refl h)
   closed-goes x (a-line t v n e d h l) =
       subst (Goes f (here q false) (here q false)) (sym e)
-        (on f (here q false) (here q true) (here q false) (only-leaf (comment (Line t))) n
-          (one-leaf f (here q false) (here q true) (comment (Line t)) (gap-goes false (remark (Line t))) refl h) (break-goes true n v l))
+      (on f (here q false) (here q true) (here q false) (only-leaf (comment (Line t))) n
+      (one-leaf f (here q false) (here q true) (comment (Line t)) (gap-goes false (remark (Line t))) refl h) (break-goes true n v l))
 
   unit-goes : (last : Bool) (x : Pieces) (u : List ℕ) → UnitL last (inl x) u → Goes f (here q false) (here q false) x
   unit-goes last x u (inl (inl l)) = closed-goes x l
@@ -230,14 +231,15 @@ module _ (V : Lang Pieces) (inside : (a : Pieces) (u : List ℕ) → V a u → S
     where
       O : Owner
       O = of (boxOf F)
+
       go : (d : Pieces) (w : List ℕ) → CloseL F (inr d) w ⊎ FromItemL V F (inr d) w → Goes (of (boxOf F)) (here items false) (here shut false) d
       go d w (inl k) = token-goes (of (boxOf F)) (here items false) (here shut false) (closeToken F) d w (shut-of F d w k) (close-moves F .0) (close-takes F)
       go d w (inr k) =
           let p = stops (ItemL V F) (AfterItemL F) d w k in
           let q = stops (TriviaL false) (EndL F) (p .d) (p .snd .0) (p .snd .1) in
           subst (Goes (of (boxOf F)) (here items false) (here shut false)) (p .joined) (on (of (boxOf F)) (here items false) (here next false) (here shut false) (p .a) (p .d) (item-goes F (p .a) (p .fst .0) (p .fst .1))
-            (subst (Goes (of (boxOf F)) (here next false) (here shut false)) (q .joined) (on (of (boxOf F)) (here next false) (here next false) (here shut false) (q .a) (q .d) (trivia-goes (of (boxOf F)) next refl (q .a) (q .fst .0) (q .fst .1))
-              (token-goes (of (boxOf F)) (here next false) (here shut false) (closeToken F) (q .d) (q .snd .0) (q .snd .1) (close-moves F .1) (close-takes F)))))
+          (subst (Goes (of (boxOf F)) (here next false) (here shut false)) (q .joined) (on (of (boxOf F)) (here next false) (here next false) (here shut false) (q .a) (q .d) (trivia-goes (of (boxOf F)) next refl (q .a) (q .fst .0) (q .fst .1))
+          (token-goes (of (boxOf F)) (here next false) (here shut false) (closeToken F) (q .d) (q .snd .0) (q .snd .1) (close-moves F .1) (close-takes F)))))
 
   turn-goes : (F : Frame) (c : Pieces) (u : List ℕ) → TurnL V F (inl c) u → Goes (of (boxOf F)) (here items false) (here items false) c
   turn-goes F c u l = (let m = goes-on (TriviaL false) (λ x u. CloseL F x u ⊎ FromItemL V F x u) c u l in
@@ -249,8 +251,8 @@ module _ (V : Lang Pieces) (inside : (a : Pieces) (u : List ℕ) → V a u → S
           let p = goes-on (ItemL V F) (AfterItemL F) d w k in
           let q = goes-on (TriviaL false) (EndL F) (p .d) (p .snd .0) (p .snd .1) in
           subst (Goes (of (boxOf F)) (here items false) (here items false)) (p .joined) (on (of (boxOf F)) (here items false) (here next false) (here items false) (p .a) (p .d) (item-goes F (p .a) (p .fst .0) (p .fst .1))
-            (subst (Goes (of (boxOf F)) (here next false) (here items false)) (q .joined) (on (of (boxOf F)) (here next false) (here next false) (here items false) (q .a) (q .d) (trivia-goes (of (boxOf F)) next refl (q .a) (q .fst .0) (q .fst .1))
-              (token-goes (of (boxOf F)) (here next false) (here items false) comma (q .d) (q .snd .0) (q .snd .1) refl (comma-takes F)))))
+          (subst (Goes (of (boxOf F)) (here next false) (here items false)) (q .joined) (on (of (boxOf F)) (here next false) (here next false) (here items false) (q .a) (q .d) (trivia-goes (of (boxOf F)) next refl (q .a) (q .fst .0) (q .fst .1))
+          (token-goes (of (boxOf F)) (here next false) (here items false) comma (q .d) (q .snd .0) (q .snd .1) refl (comma-takes F)))))
 
   items-goes : (F : Frame) (xs : List Pieces) (c : Pieces) (u : List ℕ) → iterate (TurnL V F) (λ _. []) xs c u → Goes (of (boxOf F)) (here items false) (here shut false) (joins xs c)
   items-goes F [] c u l = final-goes F c u l
@@ -292,9 +294,10 @@ value-open n a [] v l f = false≢true (value-laws n .null-ok a l)
 value-open n a (b ∷ u) v l f = true≢false (sym (covers-ok OpenMore ValueFirst refl b (value-laws n .first-ok a b u l)) ∙ f)
 
 front-trivia : (n : ℕ) (x a : Pieces) (u w v : List ℕ) → TriviaL true x u → Free (trail x) (w ++ v) → ValueL n a w → TriviaL false x u
-front-trivia n x a u w v ((xs, c), e, l) f k = elim (close-run xs c u l)
-    [ inl r ↦ ((xs, c), e, r)
-    | inr z ↦ absurd (value-open n a w v k (subst (λ y. Free y (w ++ v)) (ap trail (sym e) ∙ trail-run true xs c u l ∙ z) f)) ]
+front-trivia n x a u w v ((xs, c), e, l) f k = elim (close-run xs c u l) [
+  | inl r ↦ ((xs, c), e, r)
+  | inr z ↦ absurd (value-open n a w v k (subst (λ y. Free y (w ++ v)) (ap trail (sym e) ∙ trail-run true xs c u l ∙ z) f))
+]
 
 -- a whole text
 record Texted (a : Pieces) : Type 0 where

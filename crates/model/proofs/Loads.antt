@@ -69,15 +69,18 @@ count-outside k p n (box b c r) (inr h) = omega (arith, one-not p k (λ e. omega
 pub count-inside : (k p n : ℕ) (a : Pieces) → p ≤ k → k < p + nodes a → count k (numbered p n a) ≡ 1
 count-inside k p n no-pieces h l = absurd (omega arith)
 count-inside k p n (leaf x r) h l =
-    elim (cases-eq p k)
-      [ inl e ↦ omega (arith, one-is p k e, count-outside k (suc p) (suc n) r (inl (omega arith)))
-      | inr d ↦ (let g : suc p ≤ k = omega (arith, d) in omega (arith, one-not p k d, count-inside k (suc p) (suc n) r g (omega arith))) ]
+    elim (cases-eq p k) [
+      | inl e ↦ omega (arith, one-is p k e, count-outside k (suc p) (suc n) r (inl (omega arith)))
+      | inr d ↦ (let g : suc p ≤ k = omega (arith, d) in omega (arith, one-not p k d, count-inside k (suc p) (suc n) r g (omega arith)))
+    ]
 count-inside k p n (box b c r) h l =
-    elim (cases-eq p k)
-      [ inl e ↦ omega (arith, one-is p k e, count-outside k (suc p) (suc n) c (inl (omega arith)), count-outside k (suc (p + nodes c)) (suc (n + nodes c)) r (inl (omega arith)))
-      | inr d ↦ (let g : suc p ≤ k = omega (arith, d) in elim (cases-lt k (suc (p + nodes c)))
-          [ inl i ↦ omega (arith, one-not p k d, count-inside k (suc p) (suc n) c g (omega arith), count-outside k (suc (p + nodes c)) (suc (n + nodes c)) r (inl i))
-          | inr o ↦ omega (arith, one-not p k d, count-outside k (suc p) (suc n) c (inr (omega arith)), count-inside k (suc (p + nodes c)) (suc (n + nodes c)) r o (omega arith)) ]) ]
+    elim (cases-eq p k) [
+      | inl e ↦ omega (arith, one-is p k e, count-outside k (suc p) (suc n) c (inl (omega arith)), count-outside k (suc (p + nodes c)) (suc (n + nodes c)) r (inl (omega arith)))
+      | inr d ↦ (let g : suc p ≤ k = omega (arith, d) in elim (cases-lt k (suc (p + nodes c))) [
+        | inl i ↦ omega (arith, one-not p k d, count-inside k (suc p) (suc n) c g (omega arith), count-outside k (suc (p + nodes c)) (suc (n + nodes c)) r (inl i))
+        | inr o ↦ omega (arith, one-not p k d, count-outside k (suc p) (suc n) c (inr (omega arith)), count-inside k (suc (p + nodes c)) (suc (n + nodes c)) r o (omega arith))
+      ])
+    ]
 
 -- the comments, and the value
 leaf-comments : (x : Leaf) (p n : ℕ) (r : Pieces) (b : Bool) → ((b : Bool) → comments (numbered (suc p) (suc n) r) ≡ notes (lay r b)) → comments (numbered p n (leaf x r)) ≡ notes (lay (leaf x r) b)

@@ -46,31 +46,31 @@ unspaced-ends f q b end e = e
 unspaced-ends f q b (node p i ks ts) e =
     let x = pieceOf (class (i .sort)) in
     cond-both (dropped? x b (shuts ts)) (unspaced (begun x b) ts) (node p i ks (unspaced (begun x b) ts)) (λ y. Ends f (run q y))
-      (λ z. unspaced-ends f q (begun x b) ts (blank-stays f q ts (subst (λ c. Ends f (run (step q c) ts)) (space-is (class (i .sort)) b (shuts ts) z) e)))
-      (λ z. unspaced-ends f (step q (class (i .sort))) (begun x b) ts e)
+    (λ z. unspaced-ends f q (begun x b) ts (blank-stays f q ts (subst (λ c. Ends f (run (step q c) ts)) (space-is (class (i .sort)) b (shuts ts) z) e)))
+    (λ z. unspaced-ends f (step q (class (i .sort))) (begun x b) ts e)
 
 unspaced-each : (P : Own → Nodes → Type 0) (b : Bool) (ts : Nodes) → Each P ts → Each P (unspaced b ts)
 unspaced-each P b end h = tt
 unspaced-each P b (node p i ks ts) h =
     let x = pieceOf (class (i .sort)) in
     cond-both (dropped? x b (shuts ts)) (unspaced (begun x b) ts) (node p i ks (unspaced (begun x b) ts)) (Each P)
-      (λ z. unspaced-each P (begun x b) ts (h .1)) (λ z. (h .0, unspaced-each P (begun x b) ts (h .1)))
+    (λ z. unspaced-each P (begun x b) ts (h .1)) (λ z. (h .0, unspaced-each P (begun x b) ts (h .1)))
 
 pub unspaced-comments : (b : Bool) (ts : Nodes) → comments (unspaced b ts) ≡ comments ts
 unspaced-comments b end = refl
 unspaced-comments b (node p i ks ts) =
     let x = pieceOf (class (i .sort)) in
     cond-both (dropped? x b (shuts ts)) (unspaced (begun x b) ts) (node p i ks (unspaced (begun x b) ts)) (λ y. comments y ≡ comments (node p i ks ts))
-      (λ z. unspaced-comments (begun x b) ts ∙ sym (ap (λ c. remarksOf c (comments ks) ++ comments ts) (space-is (class (i .sort)) b (shuts ts) z)))
-      (λ z. ap (λ y. remarksOf (class (i .sort)) (comments ks) ++ y) (unspaced-comments (begun x b) ts))
+    (λ z. unspaced-comments (begun x b) ts ∙ sym (ap (λ c. remarksOf c (comments ks) ++ comments ts) (space-is (class (i .sort)) b (shuts ts) z)))
+    (λ z. ap (λ y. remarksOf (class (i .sort)) (comments ks) ++ y) (unspaced-comments (begun x b) ts))
 
 pub unspaced-parts : (b : Bool) (ts : Nodes) → parts (unspaced b ts) ≡ parts ts
 unspaced-parts b end = refl
 unspaced-parts b (node p i ks ts) =
     let x = pieceOf (class (i .sort)) in
     cond-both (dropped? x b (shuts ts)) (unspaced (begun x b) ts) (node p i ks (unspaced (begun x b) ts)) (λ y. parts y ≡ parts (node p i ks ts))
-      (λ z. unspaced-parts (begun x b) ts ∙ sym (ap (λ c. partsAt c (handle p i) (labelOf (i .sort) (pieces ks)) (parts ks) (parts ts)) (space-is (class (i .sort)) b (shuts ts) z)))
-      (λ z. ap (partsAt (class (i .sort)) (handle p i) (labelOf (i .sort) (pieces ks)) (parts ks)) (unspaced-parts (begun x b) ts))
+    (λ z. unspaced-parts (begun x b) ts ∙ sym (ap (λ c. partsAt c (handle p i) (labelOf (i .sort) (pieces ks)) (parts ks) (parts ts)) (space-is (class (i .sort)) b (shuts ts) z)))
+    (λ z. ap (partsAt (class (i .sort)) (handle p i) (labelOf (i .sort) (pieces ks)) (parts ks)) (unspaced-parts (begun x b) ts))
 
 -- THE LINES THAT ARE WRITTEN
 
@@ -172,6 +172,7 @@ lead-ends f (here q k) l b s c p i ks ts v h u e = go c v u e
     lined : (c : Class) → class (i .sort) ≡ c → Untitled c → Loosely (pieceOf c) → Ends f (run (step (here q k) c) ts) → Ends f (run (here q k) (append (sown s (lead l (pieceOf c) b)) (node p i ks ts)))
     lined c v u w e = lining-ends f q k s (node p i ks ts) (loose-before f q k c ts u w e) (lead-lining l (pieceOf c) b h)
         (subst (λ y. Ends f (run (step (here q k) y) ts)) (sym v) e) (subst (λ y. Ends f (run (step (here q false) y) ts)) (sym v) (no-line-open f q k c ts e))
+
     go : (c : Class) → class (i .sort) ≡ c → Untitled c → Ends f (run (step (here q k) c) ts) → Ends f (run (here q k) (append (sown s (lead l (pieceOf c) b)) (node p i ks ts)))
     go (gap blank) v u e = lined (gap blank) v u tt e
     go (gap break) v u e = lined (gap break) v u tt e
@@ -216,5 +217,5 @@ pub multiline-fits : (f : Owner) (l : Lines) (s : Supply) (ts : Nodes) → Blank
 multiline-fits f l s ts h n d w =
     let a = unspaced-each (Kept f) false ts (each-kept f ts (d .taken) w) in
     kept-fits f (spreadOut l false s (unspaced false ts))
-      (spread-ends f (begin f) l false s (unspaced false ts) h n (kept-taken f (unspaced false ts) a) (unspaced-ends f (begin f) false ts (d .ends)))
-      (spread-each f l false s (unspaced false ts) h a)
+    (spread-ends f (begin f) l false s (unspaced false ts) h n (kept-taken f (unspaced false ts) a) (unspaced-ends f (begin f) false ts (d .ends)))
+    (spread-each f l false s (unspaced false ts) h a)

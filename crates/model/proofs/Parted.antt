@@ -30,7 +30,7 @@ lead-back end v = refl
 lead-back (node p i ks bs) v = go (class (i .sort)) (node p i ks bs) refl (lead-back bs v)
   where
     go : (c : Class) (x : Nodes) → lead x v ≡ lead bs (partsAt c (handle p i) (labelOf (i .sort) (pieces ks)) (parts ks) v) → lead (backLine bs) v ≡ lead bs v
-      → lead (backAt c x (backLine bs)) v ≡ lead bs (partsAt c (handle p i) (labelOf (i .sort) (pieces ks)) (parts ks) v)
+        → lead (backAt c x (backLine bs)) v ≡ lead bs (partsAt c (handle p i) (labelOf (i .sort) (pieces ks)) (parts ks) v)
     go (gap blank) x h r = r
     go (gap break) x h r = h
     go (gap (remark c)) x h r = r
@@ -42,7 +42,7 @@ lead-comma end v = refl
 lead-comma (node p i ks bs) v = go (class (i .sort)) (node p i ks (unComma bs)) (lead-comma bs (partsAt (class (i .sort)) (handle p i) (labelOf (i .sort) (pieces ks)) (parts ks) v))
   where
     go : (c : Class) (y : Nodes) → lead y v ≡ lead bs (partsAt c (handle p i) (labelOf (i .sort) (pieces ks)) (parts ks) v)
-      → lead (cond (isComma c) bs y) v ≡ lead bs (partsAt c (handle p i) (labelOf (i .sort) (pieces ks)) (parts ks) v)
+        → lead (cond (isComma c) bs y) v ≡ lead bs (partsAt c (handle p i) (labelOf (i .sort) (pieces ks)) (parts ks) v)
     go (gap g) y h = h
     go (mark Open) y h = h
     go (mark Close) y h = h
@@ -69,7 +69,7 @@ parts-line end = refl
 parts-line (node p i ks ts) = go (class (i .sort)) (solidNext ts) (node p i ks ts) refl (parts-line ts)
   where
     go : (c : Class) (b : Bool) (x : Nodes) → parts x ≡ partsAt c (handle p i) (labelOf (i .sort) (pieces ks)) (parts ks) (parts ts) → parts (dropLine ts) ≡ parts ts
-      → parts (restAt c b x (dropLine ts) ts) ≡ partsAt c (handle p i) (labelOf (i .sort) (pieces ks)) (parts ks) (parts ts)
+        → parts (restAt c b x (dropLine ts) ts) ≡ partsAt c (handle p i) (labelOf (i .sort) (pieces ks)) (parts ks) (parts ts)
     go (gap blank) true x h r = h
     go (gap blank) false x h r = r
     go (gap break) b x h r = refl
@@ -83,8 +83,9 @@ parts-tight (node p i ks ts) = go (class (i .sort)) (node p i ks (tight ts)) ref
   where
     at : (c : Class) → parts (tight ts) ≡ parts ts → partsAt c (handle p i) (labelOf (i .sort) (pieces ks)) (parts ks) (parts (tight ts)) ≡ partsAt c (handle p i) (labelOf (i .sort) (pieces ks)) (parts ks) (parts ts)
     at c r = ap (partsAt c (handle p i) (labelOf (i .sort) (pieces ks)) (parts ks)) r
+
     go : (c : Class) (x : Nodes) → parts x ≡ partsAt c (handle p i) (labelOf (i .sort) (pieces ks)) (parts ks) (parts (tight ts)) → parts (tight ts) ≡ parts ts
-      → parts (tightAt c x (tight ts)) ≡ partsAt c (handle p i) (labelOf (i .sort) (pieces ks)) (parts ks) (parts ts)
+        → parts (tightAt c x (tight ts)) ≡ partsAt c (handle p i) (labelOf (i .sort) (pieces ks)) (parts ks) (parts ts)
     go (gap blank) x h r = r
     go (gap break) x h r = r
     go (gap (remark c)) x h r = h ∙ at (gap (remark c)) r
@@ -100,6 +101,7 @@ parts-closed bs ts = go (pastComma ts) refl
     cut : (b : Bool) (r : Nodes) → parts (cond b (dropLine r) r) ≡ parts r
     cut true r = parts-line r
     cut false r = refl
+
     go : (o : Option Nodes) → pastComma ts ≡ o → parts (closed bs ts o) ≡ lead bs (parts ts)
     go None w = parts-onto (unComma (backLine bs)) (dropLine ts) ∙ (ap (lead (unComma (backLine bs))) (parts-line ts) ∙ (lead-comma (backLine bs) (parts ts) ∙ lead-back bs (parts ts)))
     go (Some r) w = parts-onto (backLine bs) (cond (not (lineEnds ts) && lineEnds r) (dropLine r) r)
@@ -110,13 +112,13 @@ parts-removal bs p i ks ts = parts-tidy (closed bs ts (pastComma ts)) ∙ parts-
 
 -- the part that is lost, among those of the siblings
 lost-at : (k p : ℕ) (i : Own) (ks ts : Nodes) → eqb p k ≡ false → (c : Class)
-  → partsAt c (handle p i) (labelOf (i .sort) (pieces ks)) (parts ks) (lost k (parts ts)) ≡ lost k (partsAt c (handle p i) (labelOf (i .sort) (pieces ks)) (parts ks) (parts ts))
+    → partsAt c (handle p i) (labelOf (i .sort) (pieces ks)) (parts ks) (lost k (parts ts)) ≡ lost k (partsAt c (handle p i) (labelOf (i .sort) (pieces ks)) (parts ks) (parts ts))
 lost-at k p i ks ts e (gap g) = refl
 lost-at k p i ks ts e (mark m) = refl
 lost-at k p i ks ts e value = sym (cond-false (eqb p k) (parts ts) (part (handle p i) (labelOf (i .sort) (pieces ks)) (parts ks) (lost k (parts ts))) e)
 
 lost-here : (k p : ℕ) (i : Own) (ks ts : Nodes) → eqb p k ≡ true → (c : Class) → c ≡ value
-  → lost k (partsAt c (handle p i) (labelOf (i .sort) (pieces ks)) (parts ks) (parts ts)) ≡ parts ts
+    → lost k (partsAt c (handle p i) (labelOf (i .sort) (pieces ks)) (parts ks) (parts ts)) ≡ parts ts
 lost-here k p i ks ts e (gap g) v = (let z : _≡_ {A = ℕ} 0 1 = cc in absurd (omega arith))
 lost-here k p i ks ts e (mark m) v = (let z : _≡_ {A = ℕ} 0 1 = cc in absurd (omega arith))
 lost-here k p i ks ts e value v = cond-true (eqb p k) (parts ts) (part (handle p i) (labelOf (i .sort) (pieces ks)) (parts ks) (lost k (parts ts))) e

@@ -197,7 +197,7 @@ module _ (ts : Nodes) (x : Label) (k : Layout) (t : List ℕ) (c : Pieces) (laid
 
 -- the closing bracket
 module _ (F : Frame) (b : Box) (m : Token) (ts : Nodes) (z : pieces ts ≡ no-pieces)
-  (laid : (d : Bool) → lay (leaf (token m) no-pieces) d ≡ shutting d) (byte : tokenByte m ≡ closer F) where
+    (laid : (d : Bool) → lay (leaf (token m) no-pieces) d ≡ shutting d) (byte : tokenByte m ≡ closer F) where
   laid-close : (d : Bool) → lay (leaf (token m) (pieces ts)) d ≡ shutting d
   laid-close d = ap (λ y. lay (leaf (token m) y) d) z ∙ laid d
 
@@ -230,7 +230,7 @@ open-at f m only false ts e r = absurd (no-dead f ts e)
 open-at f m shut false ts e r = absurd (no-dead f ts e)
 
 close-at : (f : Owner) (m : Token) (q : Pos) (l : Bool) (ts : Nodes) → Ends f (run (step (here q l) (mark Close)) ts) → Later f ts
-  → (pieces ts ≡ no-pieces → Front (Goal f items) (leaf (token m) (pieces ts))) → (pieces ts ≡ no-pieces → Front (Goal f next) (leaf (token m) (pieces ts))) → Reads f q l (leaf (token m) (pieces ts))
+    → (pieces ts ≡ no-pieces → Front (Goal f items) (leaf (token m) (pieces ts))) → (pieces ts ≡ no-pieces → Front (Goal f next) (leaf (token m) (pieces ts))) → Reads f q l (leaf (token m) (pieces ts))
 close-at f m q true ts e r i n = absurd (no-dead f ts e)
 close-at f m start false ts e r i n = absurd (no-dead f ts e)
 close-at f m items false ts e r i n = i (r shut false e)
@@ -290,7 +290,7 @@ token-at (of property) colon q l ts w e r = colon-at (of property) q l ts e (λ 
 name-begun : (t : List ℕ) (ts : Nodes) → Quoted t → Front (Goal (of property) named) (pieces ts) → Begun (of property) (leaf (name t) (pieces ts))
 name-begun t ts (n, e, ms) m =
     subst (λ y. Begun (of property) (leaf (name y) (pieces ts))) (sym e)
-      (subst (λ y. Item braces (Member y) (tick false Name (lay (pieces ts) false)) (quoted n ++ print (pieces ts))) (sym (inner-quoted n)) (done (Goal (of property) named) (pieces ts) m n ms))
+    (subst (λ y. Item braces (Member y) (tick false Name (lay (pieces ts) false)) (quoted n ++ print (pieces ts))) (sym (inner-quoted n)) (done (Goal (of property) named) (pieces ts) m n ms))
 
 title-at : (f : Owner) (t : List ℕ) (q : Pos) (l : Bool) (ts : Nodes) → takes f title ≡ true → Quoted t → Ends f (run (step (here q l) (mark Name)) ts) → Later f ts → Reads f q l (leaf (name t) (pieces ts))
 title-at top t q l ts w h e r = absurd (false≢true w)

@@ -32,8 +32,9 @@ back-line q (node p i ks bs) e = go (class (i .sort)) (node p i ks bs) e e (back
   where
     past : (g : Gap) → ((g ≡ break) → ⊥) → step (back q bs) (gap g) ≡ here items false → back q bs ≡ here items false
     past g n e = (let h = gap-inv (back q bs) g items false e in h .1 ∙ ap (here items) (line-inv (h .0) g (h .2) n))
+
     go : (c : Class) (x : Nodes) → back q x ≡ here items false → step (back q bs) c ≡ here items false
-      → (back q bs ≡ here items false → back q (backLine bs) ≡ here items false) → back q (backAt c x (backLine bs)) ≡ here items false
+        → (back q bs ≡ here items false → back q (backLine bs) ≡ here items false) → back q (backAt c x (backLine bs)) ≡ here items false
     go (gap blank) x h e f = f (past blank (λ z. (let y : _≡_ {A = ℕ} 0 1 = cc in omega arith)) e)
     go (gap break) x h e f = h
     go (gap (remark c)) x h e f = f (past (remark c) (λ z. (let y : _≡_ {A = ℕ} 0 1 = cc in omega arith)) e)
@@ -52,17 +53,18 @@ un-comma f (node p i ks bs) l e =
     go (class (i .sort)) (node p i ks (unComma bs)) e refl (λ u. ap (node p i ks) u) (un-comma f bs)
   where
     at : (m : Mark) (y : Nodes) → Opened (back (begin f) bs) l m → (unComma bs ≡ bs → y ≡ node p i ks bs)
-      → (back (begin f) (cond (isComma (mark m)) bs y) ≡ here next l) ⊎ (cond (isComma (mark m)) bs y ≡ node p i ks bs)
+        → (back (begin f) (cond (isComma (mark m)) bs y) ≡ here next l) ⊎ (cond (isComma (mark m)) bs y ≡ node p i ks bs)
     at Close y z f′ = elim z [ ]
     at Colon y z f′ = elim z [ ]
     at Name y z f′ = elim z [ ]
     at Comma y (by-comma z) f′ = inl z
     at Open y (by-open z) f′ = inr (f′ (let w = nothing-before f bs l z in ap unComma w ∙ sym w))
+
     go : (c : Class) (y : Nodes) → step (back (begin f) bs) c ≡ here items l → back (begin f) y ≡ step (back (begin f) (unComma bs)) c → (unComma bs ≡ bs → y ≡ node p i ks bs)
-      → ((k : Bool) → back (begin f) bs ≡ here items k → (back (begin f) (unComma bs) ≡ here next k) ⊎ (unComma bs ≡ bs))
-      → (back (begin f) (cond (isComma c) bs y) ≡ here next l) ⊎ (cond (isComma c) bs y ≡ node p i ks bs)
+        → ((k : Bool) → back (begin f) bs ≡ here items k → (back (begin f) (unComma bs) ≡ here next k) ⊎ (unComma bs ≡ bs))
+        → (back (begin f) (cond (isComma c) bs y) ≡ here next l) ⊎ (cond (isComma c) bs y ≡ node p i ks bs)
     go (gap g) y e h f′ r = (let v = gap-inv (back (begin f) bs) g items l e in
-      elim (r (v .0) (v .1)) [ inl u ↦ inl (h ∙ (ap (λ z. step z (gap g)) u ∙ gap-same items next (v .0) l g (v .2))) | inr u ↦ inr (f′ u) ])
+        elim (r (v .0) (v .1)) [ inl u ↦ inl (h ∙ (ap (λ z. step z (gap g)) u ∙ gap-same items next (v .0) l g (v .2))) | inr u ↦ inr (f′ u) ])
     go (mark m) y e h f′ r = at m y (items-mark (back (begin f) bs) m l e) f′
     go value y e h f′ r = absurd (items-value (back (begin f) bs) l e)
 
@@ -73,8 +75,8 @@ line-fits f q l (node p i ks ts) e =
     go (class (i .sort)) (solidNext ts) (node p i ks ts) refl e (λ k. line-fits f q k ts)
   where
     go : (c : Class) (b : Bool) (x : Nodes) → run (here q false) x ≡ run (step (here q false) c) ts → Ends f (run (step (here q l) c) ts)
-      → ((k : Bool) → Ends f (run (here q k) ts) → Ends f (run (here q false) (dropLine ts)))
-      → Ends f (run (here q false) (restAt c b x (dropLine ts) ts))
+        → ((k : Bool) → Ends f (run (here q k) ts) → Ends f (run (here q false) (dropLine ts)))
+        → Ends f (run (here q false) (restAt c b x (dropLine ts) ts))
     go (gap blank) true x h e r = subst (Ends f) (sym h) (blank-plain f q l ts e)
     go (gap blank) false x h e r = (let g = gap-goes f q l blank ts e in r (g .0) (g .1))
     go (gap break) b x h e r = break-goes f q l ts e
@@ -91,7 +93,7 @@ past-fits f l end r w e = absurd (some-none r (sym w))
 past-fits f l (node p i ks ts) r w e = go (class (i .sort)) w e (λ k. past-fits f k ts r)
   where
     go : (c : Class) → pastAt c (pastComma ts) ts ≡ Some r → Ends f (run (step (here next l) c) ts)
-      → ((k : Bool) → pastComma ts ≡ Some r → Ends f (run (here next k) ts) → Ends f (run (here items false) r)) → Ends f (run (here items false) r)
+        → ((k : Bool) → pastComma ts ≡ Some r → Ends f (run (here next k) ts) → Ends f (run (here items false) r)) → Ends f (run (here items false) r)
     go (gap g) w e h = (let k = gap-goes f next l g ts e in h (k .0) w (k .1))
     go (mark Open) w e h = absurd (some-none r (sym w))
     go (mark Close) w e h = absurd (some-none r (sym w))
@@ -102,7 +104,7 @@ past-fits f l (node p i ks ts) r w e = go (class (i .sort)) w e (λ k. past-fits
 
 -- no trailing comma: as well where no item has come
 swap-gap : (f : Owner) (l : Bool) (g : Gap) (ts : Nodes) → ((k : Bool) → Ends f (run (here next k) ts) → Ends f (run (here items k) ts))
-  → Ends f (run (gapped next l g) ts) → Ends f (run (gapped items l g) ts)
+    → Ends f (run (gapped next l g) ts) → Ends f (run (gapped items l g) ts)
 swap-gap f true blank ts h e = e
 swap-gap f true break ts h e = h false e
 swap-gap f true (remark c) ts h e = e
@@ -119,8 +121,9 @@ none-fits f l (node p i ks ts) w e = go (class (i .sort)) w e (λ h k. none-fits
     close : (l : Bool) → Ends f (run (step (here next l) (mark Close)) ts) → Ends f (run (step (here items l) (mark Close)) ts)
     close true e = e
     close false e = e
+
     go : (c : Class) → pastAt c (pastComma ts) ts ≡ None → Ends f (run (step (here next l) c) ts)
-      → (pastComma ts ≡ None → (k : Bool) → Ends f (run (here next k) ts) → Ends f (run (here items k) ts)) → Ends f (run (step (here items l) c) ts)
+        → (pastComma ts ≡ None → (k : Bool) → Ends f (run (here next k) ts) → Ends f (run (here items k) ts)) → Ends f (run (step (here items l) c) ts)
     go (gap g) w e h = swap-gap f l g ts (h w) e
     go (mark Open) w e h = absurd (no-dead f ts (mark-goes f next l Open ts e))
     go (mark Close) w e h = close l e
@@ -141,6 +144,7 @@ tight-fits f q (node p i ks ts) w e = go (class (i .sort)) (node p i ks (tight t
     opened named h e = absurd (no-dead f ts e)
     opened only h e = absurd (no-dead f ts e)
     opened shut h e = absurd (no-dead f ts e)
+
     closes : (q : Pos) → ((v : Pos) → Ends f (run (here v false) ts) → Ends f (run (here v false) (tight ts))) → Ends f (run (marked q Close) ts) → Ends f (run (marked q Close) (tight ts))
     closes start h e = absurd (no-dead f ts e)
     closes items h e = h shut e
@@ -148,9 +152,10 @@ tight-fits f q (node p i ks ts) w e = go (class (i .sort)) (node p i ks (tight t
     closes named h e = absurd (no-dead f ts e)
     closes only h e = absurd (no-dead f ts e)
     closes shut h e = absurd (no-dead f ts e)
+
     go : (c : Class) (x : Nodes) → ((v : State) → run v x ≡ run (step v c) (tight ts)) → bareAt c (empty ts) ≡ true → Ends f (run (step (here q false) c) ts)
-      → (empty ts ≡ true → (v : Pos) → Ends f (run (here v false) ts) → Ends f (run (here v false) (tight ts)))
-      → Ends f (run (here q false) (tightAt c x (tight ts)))
+        → (empty ts ≡ true → (v : Pos) → Ends f (run (here v false) ts) → Ends f (run (here v false) (tight ts)))
+        → Ends f (run (here q false) (tightAt c x (tight ts)))
     go (gap blank) x w z e h = h z q (blank-goes f q false ts e)
     go (gap break) x w z e h = h z q (break-goes f q false ts e)
     go (gap (remark c)) x w z e h = absurd (false≢true z)
@@ -170,14 +175,17 @@ closed-ends f bs ts q e = go (pastComma ts) refl
   where
     put : (cs us : Nodes) (v : State) → back (begin f) cs ≡ v → Ends f (run v us) → Ends f (run (begin f) (onto cs us))
     put cs us v w e = subst (Ends f) (sym (run-onto (begin f) cs us)) (subst (λ x. Ends f (run x us)) (sym w) e)
+
     cut : (b : Bool) (r : Nodes) → Ends f (run (here items false) r) → Ends f (run (here items false) (cond b (dropLine r) r))
     cut true r e = line-fits f items false r e
     cut false r e = e
+
     go : (o : Option Nodes) → pastComma ts ≡ o → Ends f (run (begin f) (closed bs ts o))
     go None w =
-        elim (un-comma f (backLine bs) false (back-line (begin f) bs q))
-        [ inl u ↦ put (unComma (backLine bs)) (dropLine ts) (here next false) u (line-fits f next false ts e)
-        | inr u ↦ put (unComma (backLine bs)) (dropLine ts) (here items false) (ap (back (begin f)) u ∙ back-line (begin f) bs q) (line-fits f items false ts (none-fits f false ts w e)) ]
+        elim (un-comma f (backLine bs) false (back-line (begin f) bs q)) [
+          | inl u ↦ put (unComma (backLine bs)) (dropLine ts) (here next false) u (line-fits f next false ts e)
+          | inr u ↦ put (unComma (backLine bs)) (dropLine ts) (here items false) (ap (back (begin f)) u ∙ back-line (begin f) bs q) (line-fits f items false ts (none-fits f false ts w e))
+        ]
     go (Some r) w = put (backLine bs) (cond (not (lineEnds ts) && lineEnds r) (dropLine r) r) (here items false) (back-line (begin f) bs q) (cut (not (lineEnds ts) && lineEnds r) r (past-fits f false ts r w e))
 
 -- what holds of each of the siblings holds of those that stay
@@ -269,7 +277,6 @@ pub kept-whole : (f : Owner) (ts : Nodes) → Each (Kept f) ts → Whole ts
 kept-whole f end h = tt
 kept-whole f (node p i ks ts) h = (h .0 .1, h .0 .2, kept-whole f ts (h .1))
 
-
 pub kept-fits : (f : Owner) (ts : Nodes) → Ends f (run (begin f) ts) → Each (Kept f) ts → Fits f ts × Whole ts
 kept-fits f ts e h = (record { ends = e; taken = kept-taken f ts h }, kept-whole f ts h)
 
@@ -300,7 +307,7 @@ back-unnamed f end n h = begin-unnamed f
 back-unnamed f (node p i ks bs) n h = unnamed-step (back (begin f) bs) (class (i .sort)) (back-unnamed f bs n (h .1)) (sort-untitled f (i .sort) n (h .0 .0))
 
 removal-fits : (f : Owner) (bs : Nodes) (p : ℕ) (i : Own) (ks ts : Nodes) → takes f title ≡ false → class (i .sort) ≡ value
-  → Fits f (onto bs (node p i ks ts)) → Whole (onto bs (node p i ks ts)) → Fits f (removal bs p i ks ts) × Whole (removal bs p i ks ts)
+    → Fits f (onto bs (node p i ks ts)) → Whole (onto bs (node p i ks ts)) → Fits f (removal bs p i ks ts) × Whole (removal bs p i ks ts)
 removal-fits f bs p i ks ts n v h w =
     let a = onto-each (Kept f) bs (node p i ks ts) (each-kept f (onto bs (node p i ks ts)) (h .taken) w) in
     let e : Ends f (run (step (back (begin f) bs) value) ts) = subst (λ c. Ends f (run (step (back (begin f) bs) c) ts)) v (subst (Ends f) (run-onto (begin f) bs (node p i ks ts)) (h .ends)) in
@@ -310,7 +317,7 @@ removal-fits f bs p i ks ts n v h w =
 
 -- an edit at one sibling
 pub local-ways : (Q : Nodes → Type 0) (g : Local) (k : ℕ) (bs ts : Nodes) → Q (onto bs ts)
-  → ((cs : Nodes) (p : ℕ) (i : Own) (ks us : Nodes) → onto cs (node p i ks us) ≡ onto bs ts → p ≡ k → Q (g cs p i ks us)) → Q (localFrom g k bs ts)
+    → ((cs : Nodes) (p : ℕ) (i : Own) (ks us : Nodes) → onto cs (node p i ks us) ≡ onto bs ts → p ≡ k → Q (g cs p i ks us)) → Q (localFrom g k bs ts)
 local-ways Q g k bs end h r = h
 local-ways Q g k bs (node p i ks ts) h r = cond-both (eqb p k) (g bs p i ks ts) (localFrom g k (node p i ks bs) ts) Q
     (λ e. r bs p i ks ts refl (eqb-true p k e)) (λ e. local-ways Q g k (node p i ks bs) ts h r)
@@ -324,6 +331,6 @@ at-here bs p i ks us ts e = subst (At p i ks) e (at-onto bs p i ks (node p i ks 
 
 -- remove keeps a child list that is no property's
 pub remove-fits : (f : Owner) (k : ℕ) (ts : Nodes) → takes f title ≡ false → ((i : Own) (ks : Nodes) → At k i ks ts → class (i .sort) ≡ value)
-  → Fits f ts → Whole ts → Fits f (local removal k ts) × Whole (local removal k ts)
+    → Fits f ts → Whole ts → Fits f (local removal k ts) × Whole (local removal k ts)
 remove-fits f k ts n v h w = local-ways (λ y. Fits f y × Whole y) removal k end ts (h, w)
     (λ cs p i ks us e z. removal-fits f cs p i ks us n (v i ks (subst (λ y. At y i ks ts) z (at-here cs p i ks us ts e))) (subst (Fits f) (sym e) h) (subst Whole (sym e) w))

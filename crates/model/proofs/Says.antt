@@ -14,7 +14,7 @@ use Rattle.model.specs.Edits.{Supply, skip, sown, onto, local, exchanged}
 use Rattle.model.specs.Fits.{comments, remarksOf, bare}
 use Rattle.model.specs.Written.{Value, spelled, Style, isNil, anyFull, spread, innerIndent, ahead, behind, shut as shutting, framed, members, written}
 use Rattle.model.specs.Sources.{IsNil, IsOne, Inside, free, keyed, LabelFits, Shaped}
-use Rattle.model.specs.Changes.{At, Around}
+use Rattle.model.specs.Changes.{At, Around, notesBefore}
 use Rattle.model.proofs.Removes.{local-ways, at-here}
 use Rattle.model.proofs.Writes.{shaped-spelled}
 
@@ -143,12 +143,7 @@ noted-members st (part u l ks ts) b t =
 pub written-quiet : (st : Style) (t : List ℕ) (v : Value) (s : Supply) → comments (sown s (written st t v)) ≡ []
 written-quiet st t v s = noted-sown s (written st t v) ∙ noted-members st (spelled v) false t
 
--- the comments of the siblings before, nearest first
-abbrev notesBefore : Nodes → List Comment
-notesBefore end = []
-notesBefore (node p i ks bs) = notesBefore bs ++ remarksOf (class (i .sort)) (comments ks)
-
-comments-onto : (bs ts : Nodes) → comments (onto bs ts) ≡ notesBefore bs ++ comments ts
+pub comments-onto : (bs ts : Nodes) → comments (onto bs ts) ≡ notesBefore bs ++ comments ts
 comments-onto end ts = refl
 comments-onto (node p i ks bs) ts = comments-onto bs (node p i ks ts) ∙ sym (append-assoc (notesBefore bs) (remarksOf (class (i .sort)) (comments ks)) (comments ts))
 
@@ -158,10 +153,16 @@ comments-append (node p i ks us) ts = ap (λ y. remarksOf (class (i .sort)) (com
 
 -- Where new siblings take a value's place, the comments inside it make room for theirs; where there is no such value, all stay.
 pub exchange-comments : (k : ℕ) (us ts : Nodes) → ((i : Own) (ks : Nodes) → At k i ks ts → class (i .sort) ≡ value)
-  → (comments (local (exchanged us) k ts) ≡ comments ts) ⊎ ((i : Own) × (ks : Nodes) × At k i ks ts × Around (comments ts) (comments ks) (comments (local (exchanged us) k ts)) (comments us))
+    → (comments (local (exchanged us) k ts) ≡ comments ts) ⊎ ((i : Own) × (ks : Nodes) × At k i ks ts × Around (comments ts) (comments ks) (comments (local (exchanged us) k ts)) (comments us))
 exchange-comments k us ts v = local-ways (λ y. (comments y ≡ comments ts) ⊎ ((i : Own) × (ks : Nodes) × At k i ks ts × Around (comments ts) (comments ks) (comments y) (comments us))) (exchanged us) k end ts (inl refl)
-    (λ cs p i ks vs e z. (let a : At k i ks ts = subst (λ y. At y i ks ts) z (at-here cs p i ks vs ts e) in inr (i, ks, a, record
-      { before = notesBefore cs
-      ; behind = comments vs
-      ; was = ap comments (sym e) ∙ (comments-onto cs (node p i ks vs) ∙ ap (λ c. notesBefore cs ++ (remarksOf c (comments ks) ++ comments vs)) (v i ks a))
-      ; is = comments-onto cs (append us vs) ∙ ap (λ y. notesBefore cs ++ y) (comments-append us vs) })))
+    (λ cs p i ks vs e z. (let a : At k i ks ts = subst (λ y. At y i ks ts) z (at-here cs p i ks vs ts e) in inr (
+      i,
+      ks,
+      a,
+      record {
+        before = notesBefore cs;
+        behind = comments vs;
+        was = ap comments (sym e) ∙ (comments-onto cs (node p i ks vs) ∙ ap (λ c. notesBefore cs ++ (remarksOf c (comments ks) ++ comments vs)) (v i ks a));
+        is = comments-onto cs (append us vs) ∙ ap (λ y. notesBefore cs ++ y) (comments-append us vs);
+      },
+    )))

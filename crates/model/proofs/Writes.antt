@@ -71,7 +71,7 @@ pub shaped-spelled : (v : Value) (w : Inside) → Shaped v w → Shaped (spelled
 shaped-spelled nil w h = tt
 shaped-spelled (part u l ks ts) w h = (label-fits w l ks (shaped-spelled ks) (h .0), shaped-spelled ts w (h .1))
 
-all-append : (s t : List ℕ) → All Blank s → All Blank t → All Blank (s ++ t)
+pub all-append : (s t : List ℕ) → All Blank s → All Blank t → All Blank (s ++ t)
 all-append [] t h k = k
 all-append (b ∷ s) t h k = (h .0, all-append s t (h .1) k)
 
@@ -145,24 +145,24 @@ module _ (st : Style) (blank : All Blank (st .step)) where
   array-item : (b : Bool) (t : List ℕ) (c : Pieces) → All Blank t → Listed free items c → Stands (framed st Array b t c no-pieces)
   array-item b t c h (z, p, m) f q r k e = boxed array f q r (leaf (token open-array) (join c (shutting st b t close-array))) e k
       (front (of array) (here start false) (here items false) (here shut false) (token open-array) (join c (shutting st b t close-array)) (one-leaf (of array) (here start false) (here items false) (token open-array) refl refl tt)
-        (on (of array) (here items false) (here z false) (here shut false) c (shutting st b t close-array) m (close-goes (of array) close-array b z t p h refl array-closes)))
+      (on (of array) (here items false) (here z false) (here shut false) c (shutting st b t close-array) m (close-goes (of array) close-array b z t p h refl array-closes)))
 
   object-item : (b : Bool) (t : List ℕ) (c : Pieces) → All Blank t → Listed keyed items c → Stands (framed st Object b t c no-pieces)
   object-item b t c h (z, p, m) f q r k e = boxed object f q r (leaf (token open-object) (join c (shutting st b t close-object))) e k
       (front (of object) (here start false) (here items false) (here shut false) (token open-object) (join c (shutting st b t close-object)) (one-leaf (of object) (here start false) (here items false) (token open-object) refl refl tt)
-        (on (of object) (here items false) (here z false) (here shut false) c (shutting st b t close-object) m (close-goes (of object) close-object b z t p h refl object-closes)))
+      (on (of object) (here items false) (here z false) (here shut false) c (shutting st b t close-object) m (close-goes (of object) close-object b z t p h refl object-closes)))
 
   member-item : (u : List ℕ) (b : Bool) (t : List ℕ) (c : Pieces) → Many StringChar u → Stands c → Itemed keyed (framed st (Member u) b t c no-pieces)
   member-item u b t c h m =
       let P : Owner = of property in
       boxed property (of object) (here items false) (here next false) (leaf (name (Rattle.model.specs.Written.quoted u)) (leaf (token colon) (leaf (whitespace oneSpace) c))) refl refl
-        (front P (here start false) (here named false) (here shut false) (name (Rattle.model.specs.Written.quoted u)) (leaf (token colon) (leaf (whitespace oneSpace) c)) (one-leaf P (here start false) (here named false) (name (Rattle.model.specs.Written.quoted u)) refl refl (u, refl, h))
-          (front P (here named false) (here only false) (here shut false) (token colon) (leaf (whitespace oneSpace) c) (one-leaf P (here named false) (here only false) (token colon) refl refl tt)
-            (front P (here only false) (here only false) (here shut false) (whitespace oneSpace) c (one-leaf P (here only false) (here only false) (whitespace oneSpace) refl refl (refl, tt))
-              (m P (here only false) (here shut false) refl refl))))
+      (front P (here start false) (here named false) (here shut false) (name (Rattle.model.specs.Written.quoted u)) (leaf (token colon) (leaf (whitespace oneSpace) c)) (one-leaf P (here start false) (here named false) (name (Rattle.model.specs.Written.quoted u)) refl refl (u, refl, h))
+      (front P (here named false) (here only false) (here shut false) (token colon) (leaf (whitespace oneSpace) c) (one-leaf P (here named false) (here only false) (token colon) refl refl tt)
+      (front P (here only false) (here only false) (here shut false) (whitespace oneSpace) c (one-leaf P (here only false) (here only false) (whitespace oneSpace) refl refl (refl, tt))
+      (m P (here only false) (here shut false) refl refl))))
 
   item : (l : Label) (ks : Value) (w : Inside) (t : List ℕ) → All Blank t → LabelFits w l ks (Shaped ks) → LabelSpelt l → Spelt ks → Known ks
-    → Itemed w (framed st l (spread l ks) t (members st (spread l ks) (innerIndent l (st .step) t) ks) no-pieces)
+      → Itemed w (framed st l (spread l ks) t (members st (spread l ks) (innerIndent l (st .step) t) ks) no-pieces)
   item Null ks free t h a b c k = λ f q r x e. one-leaf f q r null e x tt
   item (Boolean v) ks free t h a b c k = λ f q r x e. one-leaf f q r (boolean v) e x tt
   item (Numeral u) ks free t h a b c k = λ f q r x e. one-leaf f q r (number u) e x b
@@ -187,26 +187,33 @@ module _ (st : Style) (blank : All Blank (st .step)) where
       (λ e. (items, at-items, comma-leaf w)) (λ e. (next, at-next, stay (owner w) (here next false)))
   behind-goes w false t nil m = (next, at-next, stay (owner w) (here next false))
   behind-goes w true t (part u l ks ts) (z, p, m) = (z, p, front (owner w) (here next false) (here items false) (here z false) (token comma) (members st true t (part u l ks ts)) (comma-leaf w) m)
-  behind-goes w false t (part u l ks ts) (z, p, m) =
-      (z, p, front (owner w) (here next false) (here items false) (here z false) (token comma) (leaf (whitespace oneSpace) (members st false t (part u l ks ts))) (comma-leaf w)
-        (front (owner w) (here items false) (here items false) (here z false) (whitespace oneSpace) (members st false t (part u l ks ts)) (one-leaf (owner w) (here items false) (here items false) (whitespace oneSpace) refl refl (refl, tt)) m))
+  behind-goes w false t (part u l ks ts) (z, p, m) = (
+    z,
+    p,
+    front (owner w) (here next false) (here items false) (here z false) (token comma) (leaf (whitespace oneSpace) (members st false t (part u l ks ts))) (comma-leaf w)
+        (front (owner w) (here items false) (here items false) (here z false) (whitespace oneSpace) (members st false t (part u l ks ts)) (one-leaf (owner w) (here items false) (here items false) (whitespace oneSpace) refl refl (refl, tt)) m),
+  )
 
   list-on : (w : Inside) (b : Bool) (t : List ℕ) (l : Label) (ks : Value) (a : Pieces) → All Blank t → Itemed w (framed st l (spread l ks) t (members st (spread l ks) (innerIndent l (st .step) t) ks) no-pieces) → Listed w next a
-    → Listed w items (ahead st b t (framed st l (spread l ks) t (members st (spread l ks) (innerIndent l (st .step) t) ks) a))
+      → Listed w items (ahead st b t (framed st l (spread l ks) t (members st (spread l ks) (innerIndent l (st .step) t) ks) a))
   list-on w b t l ks a h i (z, p, m) =
-      let c : Pieces = members st (spread l ks) (innerIndent l (st .step) t) ks in
-      (z, p, ahead-goes (owner w) b items (here z false) t (framed st l (spread l ks) t c a) at-items h
-        (subst (Goes (owner w) (here items false) (here z false)) (sym (framed-join l (spread l ks) t c a))
-          (on (owner w) (here items false) (here next false) (here z false) (framed st l (spread l ks) t c no-pieces) a (item-list w (framed st l (spread l ks) t c no-pieces) i) m)))
+      let c : Pieces = members st (spread l ks) (innerIndent l (st .step) t) ks in (
+        z,
+        p,
+        ahead-goes (owner w) b items (here z false) t (framed st l (spread l ks) t c a) at-items h
+            (subst (Goes (owner w) (here items false) (here z false)) (sym (framed-join l (spread l ks) t c a))
+            (on (owner w) (here items false) (here next false) (here z false) (framed st l (spread l ks) t c no-pieces) a (item-list w (framed st l (spread l ks) t c no-pieces) i) m)),
+      )
 
   known : (v : Value) → Known v
   known nil = record { list = λ w b t h s p. (items, at-items, stay (owner w) (here items false)); single = λ t h o s p. absurd o }
-  known (part u l ks ts) = record
-    { list = λ w b t h s p. list-on w b t l ks (behind st b (isNil ts) (members st b t ts)) h (item l ks w t h (s .0) (p .0) (p .1) (known ks)) (behind-goes w b t ts (known ts .list w b t h (s .1) (p .2)))
-    ; single = λ t h o s p. alone t ts o (item l ks free t h (s .0) (p .0) (p .1) (known ks)) }
+  known (part u l ks ts) = record {
+    list = λ w b t h s p. list-on w b t l ks (behind st b (isNil ts) (members st b t ts)) h (item l ks w t h (s .0) (p .0) (p .1) (known ks)) (behind-goes w b t ts (known ts .list w b t h (s .1) (p .2)));
+    single = λ t h o s p. alone t ts o (item l ks free t h (s .0) (p .0) (p .1) (known ks));
+  }
     where
       alone : (t : List ℕ) (ts : Value) → IsNil ts → Stands (framed st l (spread l ks) t (members st (spread l ks) (innerIndent l (st .step) t) ks) no-pieces)
-        → Stands (framed st l (spread l ks) t (members st (spread l ks) (innerIndent l (st .step) t) ks) (behind st false (isNil ts) (members st false t ts)))
+          → Stands (framed st l (spread l ks) t (members st (spread l ks) (innerIndent l (st .step) t) ks) (behind st false (isNil ts) (members st false t ts)))
       alone t nil o i = i
       alone t (part x y us vs) o i = absurd o
 

@@ -75,7 +75,7 @@ followed r None = record { before = []; lost = lineNotes r; behind = pastLine r 
 followed r (Some q) =
     cond (breaks r) (record { before = []; lost = gapNotes r; behind = notes q })
     (cond (breaks q) (record { before = []; lost = gapNotes r ++ lineNotes q; behind = pastLine q })
-        (record { before = []; lost = gapNotes r; behind = notes q }))
+    (record { before = []; lost = gapNotes r; behind = notes q }))
 
 -- What an edit at a node loses: given whether a Newline stands before the node, the comments of the text before the last Newline or non-trivia,
 -- those since, what stands inside the node, and what stands behind it.
@@ -217,17 +217,19 @@ opened y f = record { value = withHandles f (meaning y); comments = notes y; lef
 
 -- delete what stands at the path
 abbrev pub without : Account → Layout → List ℕ → Account
-without a y p = record
-    { value = deleted (a .value) p
-    ; comments = less (lostByRemoval y p) (a .comments)
-    ; left = leaving (a .value) 0 p ++ a .left }
+without a y p = record {
+  value = deleted (a .value) p;
+  comments = less (lostByRemoval y p) (a .comments);
+  left = leaving (a .value) 0 p ++ a .left;
+}
 
 -- put the value w at the path, with the handles that f answers straight after
 abbrev pub replaced : Account → Layout → List ℕ → Value → (List ℕ → Option Handle) → Account
-replaced a y p w f = record
-    { value = put (withHandles (λ q. f (p ++ q)) w) (a .value) p
-    ; comments = less (lostInside y p) (a .comments)
-    ; left = leaving (a .value) 0 p ++ a .left }
+replaced a y p w f = record {
+  value = put (withHandles (λ q. f (p ++ q)) w) (a .value) p;
+  comments = less (lostInside y p) (a .comments);
+  left = leaving (a .value) 0 p ++ a .left;
+}
 
 -- at the path of a handle; a handle without a path changes nothing (by the promise no accepted edit of these takes one)
 abbrev pub located : Account → Option (List ℕ) → (List ℕ → Account) → Account

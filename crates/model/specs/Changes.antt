@@ -1,18 +1,21 @@
 -- Changes of one child list: where it is, what the change has to keep, and what it does to a value. Assumes nothing.
 use mathlib.Core.Path.{_≡_}
 use mathlib.Core.Bool.{true, false, cond}
-use mathlib.Core.List.{List, _++_}
+use mathlib.Core.List.{List, [], _++_}
 use mathlib.Core.Logic.{_⊎_, inl, inr}
-use Prim.Native.Nat.{ℕ}
+use Prim.Native.Nat.{ℕ, _≤_}
 use lib.Dec.{eqb}
 use Rattle.grammar.specs.Layout.{Comment, Parts, nil, part}
 use Rattle.grammar.specs.Classes.{Blank}
 use Rattle.grammar.specs.Grammar.{All}
 use Rattle.grammar.specs.Pieces.{Box}
-use Rattle.forest.specs.Forest.{end, node}
+use Rattle.forest.specs.Forest.{end, node, count}
 use Rattle.model.specs.Nodes.{Handle, Sort, within, Own, Nodes, Gap, gap, value, class}
 use Rattle.model.specs.Edits.{Lines}
-use Rattle.model.specs.Fits.{of, title, element, role, takes, Fits, Whole}
+use Rattle.model.specs.Written.{Value}
+use Rattle.model.specs.Sources.{Shows, IsOne, free, Shaped}
+use Rattle.model.specs.State.{Edit, Remove, Replace, SetValue, SetRoot, Clear, SetTrailingCommas, EnsureMultiline}
+use Rattle.model.specs.Fits.{of, title, element, role, takes, Fits, Whole, comments, remarksOf}
 
 -- a node at the place c has the data j and the children ks
 abbrev pub At : ℕ → Own → Nodes → Nodes → Type 0
@@ -81,3 +84,27 @@ IsElement k ts = (j : Own) (ks : Nodes) → At k j ks ts → (class (j .sort) �
 pub record Blanked (l : Lines) : Type 0 where
   pub inner-blank : All Blank (l .inner)
   pub current-blank : All Blank (l .current)
+
+-- the places of a document: each once, and none is the root's
+pub record Placed (ts : Nodes) : Type 0 where
+  pub once : (k : ℕ) → count k ts ≤ 1
+  pub rootless : count 0 ts ≡ 0
+
+-- a value that a source may show
+abbrev pub Showable : Value → Type 0
+Showable v = IsOne v × Shaped v free × Shows v
+
+-- the value that an edit writes is one that a source may show
+abbrev pub Showing : Edit Value → Type 0
+Showing (Remove h) = Unit {0}
+Showing (Replace h v) = Showable v
+Showing (SetValue h v) = Showable v
+Showing (SetRoot v) = Showable v
+Showing Clear = Unit {0}
+Showing (SetTrailingCommas h m) = Unit {0}
+Showing (EnsureMultiline h) = Unit {0}
+
+-- the comments of the siblings before, nearest first, in text order
+abbrev pub notesBefore : Nodes → List Comment
+notesBefore end = []
+notesBefore (node p i ks bs) = notesBefore bs ++ remarksOf (class (i .sort)) (comments ks)

@@ -217,7 +217,7 @@ abbrev pub trailed : Bool → Supply → Nodes → Nodes
 trailed b s end = end
 trailed b s (node p i ks ts) =
     node p i (trailed (lined (i .sort) ks) (skip (due b i ts) s) ks)
-        (append (sown s (commas (due b i ts))) (trailed b (skip (due b i ts + dues (lined (i .sort) ks) ks) s) ts))
+    (append (sown s (commas (due b i ts))) (trailed b (skip (due b i ts + dues (lined (i .sort) ks) ks) s) ts))
 
 -- REPLACE, SET_VALUE, SET_ROOT
 

@@ -88,8 +88,8 @@ pub data Spot : Type 0 where
 abbrev pub unit : ℕ → ℕ → (Spot → Option (List ℕ)) → Option (List ℕ)
 unit h n z =
     cond (eqb h 0)
-      (cond (firstHalf n) (z (before n)) (cond (secondHalf n) none (ahead (utf8 n) (z (before 0)))))
-      (cond (secondHalf n) (ahead (utf8 (paired h n)) (z (before 0))) none)
+    (cond (firstHalf n) (z (before n)) (cond (secondHalf n) none (ahead (utf8 n) (z (before 0)))))
+    (cond (secondHalf n) (ahead (utf8 (paired h n)) (z (before 0))) none)
 
 -- one byte, where z is what follows, from each spot
 abbrev pub said : Spot → ℕ → (Spot → Option (List ℕ)) → Option (List ℕ)

@@ -8,9 +8,9 @@ pub mod Fits
 pub mod State
 pub mod Sources
 pub mod Rows
-pub mod Cases
 pub mod Numbers
 pub mod Changes
 pub mod Laws
 pub mod Account
 pub mod Promise
+pub mod Cases

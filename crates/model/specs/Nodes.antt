@@ -5,7 +5,7 @@ use mathlib.Core.Option.{Option, some, none}
 use Prim.Native.Nat.{ℕ, suc, _+_}
 use lib.Dec.{eqb}
 use Rattle.grammar.specs.Layout.{Comment, Mark, Open, Close, Comma, Colon, Name, Label, Null, Boolean, Numeral, Text, Array, Object, Member, Layout, Parts, nil, part}
-use Rattle.grammar.specs.Pieces.{Leaf, null, boolean, number, string, name, token, whitespace, newline, comment, Box, array, object, property, Pieces, end as no-pieces, leaf, box, inner, nameOf, markOf, nodes} 
+use Rattle.grammar.specs.Pieces.{Leaf, null, boolean, number, string, name, token, whitespace, newline, comment, Box, array, object, property, Pieces, end as no-pieces, leaf, box, inner, nameOf, markOf, nodes}
 use Rattle.grammar.specs.Pieces.{print as printPieces, lay}
 use Rattle.forest.specs.Forest.{Forest, end, node}
 

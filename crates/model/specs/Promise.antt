@@ -122,7 +122,7 @@ pub record Promise {S : Type 0} (says : S → Value) (d : State) (cs : List (Cal
 pub record Lasting {S : Type 0} (says : S → Value) (d : State) : Type 0 where
   pub keeps : (cs : List (Call S)) (e : State) → Run says d cs e → (h : Handle) (k l : Sort) → sortNamed d h ≡ Some k → sortNamed e h ≡ Some l → k ≡ l
   pub gone : (cs bs : List (Call S)) (e f : State) → Run says d cs e → Run says e bs f
-    → (h : Handle) (k : Kind) → kindAnswer d h ≡ Given k → kindAnswer e h ≡ Refused Gone → kindAnswer f h ≡ Refused Gone
+      → (h : Handle) (k : Kind) → kindAnswer d h ≡ Given k → kindAnswer e h ≡ Refused Gone → kindAnswer f h ≡ Refused Gone
 
 -- The whole promise for a document newly loaded: after any calls, and of any two later hours.
 abbrev pub Kept : {S : Type 0} → (S → Value) → State → Type 0

@@ -104,16 +104,16 @@ row t x u = record { text = t; turns = record { act = x; prints = u } ∷ [] }
 abbrev pub rows : List Case
 rows =
     row (codes "{\n  \"F\": [11, 12, 13], // stalls\n}\n") (remove (0 ∷ 0 ∷ 1 ∷ [])) (codes "{\n  \"F\": [11, 13], // stalls\n}\n")
-  ∷ row (codes "[1, 2]") (remove (1 ∷ [])) (codes "[1]")
-  ∷ row (codes "[1, // one\n 2]") (remove (0 ∷ [])) (codes "[ 2]")
-  ∷ row (codes "[1 // c\n]") (remove (0 ∷ [])) (codes "[]")
-  ∷ row (codes "{}\n") (remove []) []
-  ∷ row (codes "[1, 2]") (ensure-multiline []) (codes "[\n  1,\n  2\n]")
-  ∷ row (codes "[]") (ensure-multiline []) (codes "[\n]")
-  ∷ row (codes "[1,]") (set-trailing-commas top Never) (codes "[1]")
-  ∷ row (codes "// c") (set-root (codes "null")) (codes "// c\nnull\n")
-  ∷ row (codes "[1, 2]") (replace (0 ∷ []) (codes "{\"b\": null}")) (codes "[{\n  \"b\": null\n}, 2]")
-  ∷ []
+    ∷ row (codes "[1, 2]") (remove (1 ∷ [])) (codes "[1]")
+    ∷ row (codes "[1, // one\n 2]") (remove (0 ∷ [])) (codes "[ 2]")
+    ∷ row (codes "[1 // c\n]") (remove (0 ∷ [])) (codes "[]")
+    ∷ row (codes "{}\n") (remove []) []
+    ∷ row (codes "[1, 2]") (ensure-multiline []) (codes "[\n  1,\n  2\n]")
+    ∷ row (codes "[]") (ensure-multiline []) (codes "[\n]")
+    ∷ row (codes "[1,]") (set-trailing-commas top Never) (codes "[1]")
+    ∷ row (codes "// c") (set-root (codes "null")) (codes "// c\nnull\n")
+    ∷ row (codes "[1, 2]") (replace (0 ∷ []) (codes "{\"b\": null}")) (codes "[{\n  \"b\": null\n}, 2]")
+    ∷ []
 
 -- each of them comes out as it should
 abbrev pub Worked : Type 0

@@ -166,8 +166,8 @@ abbrev pub nodeChecked : State → Handle → Outcome Value
 nodeChecked d h =
     unless (eqb (d .records) 0) BadMemory
     (andThen (present Gone (named h (d .kids))) (λ s.
-        unless (isRoot (sortOf s) || (isProperty (sortOf s) || not (isValue (class (sortOf s))))) NotHere
-        (present NotHere (decodedValue (spotValue s)))))
+    unless (isRoot (sortOf s) || (isProperty (sortOf s) || not (isValue (class (sortOf s))))) NotHere
+    (present NotHere (decodedValue (spotValue s)))))
 
 -- the value found, or null
 abbrev pub givenOrNull : Outcome Value → Value

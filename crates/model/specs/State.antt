@@ -59,9 +59,15 @@ upFrom k (suc n) = k ∷ upFrom (suc k) n
 
 -- the state after the load of these pieces, with this many records and this much store
 abbrev pub loadedState : ℕ → ℕ → Pieces → State
-loadedState r m a = record
-    { kids = loaded a; fresh = suc (suc (nodes a)); used = length (stored a); edits = 0
-    ; records = r; store = m; free = upFrom (suc (nodes a)) (r - suc (nodes a)) }
+loadedState r m a = record {
+  kids = loaded a;
+  fresh = suc (suc (nodes a));
+  used = length (stored a);
+  edits = 0;
+  records = r;
+  store = m;
+  free = upFrom (suc (nodes a)) (r - suc (nodes a));
+}
 
 -- what load answers: BadMemory, then BadText or TooDeep, NoNode, NoText
 abbrev pub largest : ℕ
@@ -157,11 +163,10 @@ abbrev pub removePlan : State → Spot → List Frame → Outcome Plan
 removePlan d s [] = Refused NotHere
 removePlan d s (f ∷ us) =
     cond (isValue (class (sortOf s)) && not (isProperty (f .own .sort)))
-        (Given (cutting (remove (f .place) (s .here .place) (d .kids)))) (Refused NotHere)
+    (Given (cutting (remove (f .place) (s .here .place) (d .kids)))) (Refused NotHere)
 
 -- REPLACE takes an element, a property's value, the root's value.
 -- the parent's spot, of its frame and those above it
-
 
 -- where the parent stands, of its frame and those above it
 abbrev pub parentSpot : Spot → Frame → List Frame → Spot
@@ -184,18 +189,18 @@ replacePlan d v s [] = Refused NotHere
 replacePlan d v s (f ∷ us) =
     let p = parentSpot s f us in
     cond (isValue (class (sortOf s)) && not (isProperty (sortOf s)))
-        (Given (exchanging d (around (f ∷ us)) (f .place) (s .here .place) v
-            (breakOf (cond (isRoot (f .own .sort)) LineFeed (newlineKind (d .kids)))) (usesTrailingCommas (f .own .sort) (p .kids)) (indents p (d .kids))))
-        (Refused NotHere)
+    (Given (exchanging d (around (f ∷ us)) (f .place) (s .here .place) v
+    (breakOf (cond (isRoot (f .own .sort)) LineFeed (newlineKind (d .kids)))) (usesTrailingCommas (f .own .sort) (p .kids)) (indents p (d .kids))))
+    (Refused NotHere)
 
 -- SET_VALUE takes a property. Trailing commas are asked of the old value.
 abbrev pub valuePlan : State → Value → Spot → Option Spot → Outcome Plan
 valuePlan d v s None = Refused NotHere
 valuePlan d v s (Some o) =
     cond (isProperty (sortOf s))
-        (Given (exchanging d (around (s .ups)) (s .here .place) (o .here .place) v
-            (breakOf (newlineKind (d .kids))) (usesTrailingCommas (sortOf o) (o .kids)) (indents s (d .kids))))
-        (Refused NotHere)
+    (Given (exchanging d (around (s .ups)) (s .here .place) (o .here .place) v
+    (breakOf (newlineKind (d .kids))) (usesTrailingCommas (sortOf o) (o .kids)) (indents s (d .kids))))
+    (Refused NotHere)
 
 -- where a property's value stands
 abbrev pub valueOf : State → Nodes → Option Spot
@@ -227,8 +232,12 @@ abbrev pub multilinePlan : State → Spot → Plan
 multilinePlan d s =
     let l = linesOf (breakOf (newlineKind (d .kids))) (indents s (d .kids)) in
     cond (any isBreak (s .kids)) (cutting (d .kids))
-        (record { deep = 0; cut = under (s .here .place) (unspaced false) (d .kids); adds = leads l false (unspaced false (s .kids))
-            ; grow = λ u. under (s .here .place) (λ ks. spreadOut l false u (unspaced false ks)) (d .kids) })
+    (record {
+      deep = 0;
+      cut = under (s .here .place) (unspaced false) (d .kids);
+      adds = leads l false (unspaced false (s .kids));
+      grow = λ u. under (s .here .place) (λ ks. spreadOut l false u (unspaced false ks)) (d .kids);
+    })
 
 -- what an edit does, or Gone, or NotHere
 abbrev pub spotted : State → Handle → Outcome Spot
@@ -261,9 +270,15 @@ supplyOf d x = record { places = freeing (missing (places (d .kids)) (x .cut)) (
 
 -- the state at the end
 abbrev pub finished : State → Plan → State
-finished d x = record
-    { kids = x .grow (supplyOf d x); fresh = d .fresh + nodes (x .adds); used = d .used + length (stored (x .adds)); edits = suc (d .edits)
-    ; records = d .records; store = d .store; free = drop (nodes (x .adds)) (supplyOf d x .places) }
+finished d x = record {
+  kids = x .grow (supplyOf d x);
+  fresh = d .fresh + nodes (x .adds);
+  used = d .used + length (stored (x .adds));
+  edits = suc (d .edits);
+  records = d .records;
+  store = d .store;
+  free = drop (nodes (x .adds)) (supplyOf d x .places);
+}
 
 -- the largest number, and the largest count of accepted edits
 abbrev pub last : ℕ
