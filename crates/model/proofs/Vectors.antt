@@ -1,9 +1,11 @@
 -- The cases beside the worked examples, by computation. Assumes nothing.
 use mathlib.Core.Path.{refl}
-use Rattle.model.specs.Cases.{Replayed}
+use Rattle.model.specs.Rows.{All-hold}
+use Rattle.model.specs.Cases.{cases, surprises, Replayed}
 
-pub replayed : Replayed
-replayed = (
+by-case : All-hold cases
+by-case =
+    (
   (refl, tt),
   (
     (refl, tt),
@@ -151,3 +153,9 @@ replayed = (
     ),
   ),
 )
+
+by-surprise : All-hold surprises
+by-surprise = ((refl, tt), ((refl, tt), ((refl, tt), ((refl, tt), ((refl, tt), ((refl, tt), ((refl, tt), ((refl, tt), ((refl, tt), ((refl, tt), ((refl, tt), ((refl, tt), ((refl, tt), ((refl, (refl, tt)), ((refl, (refl, tt)), ((refl, (refl, tt)), ((refl, (refl, tt)), ((refl, tt), ((refl, tt), ((refl, tt), ((refl, tt), ((refl, tt), ((refl, tt), tt)))))))))))))))))))))))
+
+pub replayed : Replayed
+replayed = (by-case, by-surprise)

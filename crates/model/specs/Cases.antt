@@ -67,6 +67,35 @@ cases =
     ∷ case (codes "// a\n[1]\n// b\n") (turn (clear) [] ∷ turn (set-root (codes "[1]")) (codes "[1]\n") ∷ turn (ensure-multiline []) (codes "[\n  1\n]\n") ∷ turn (remove (0 ∷ [])) (codes "[]\n") ∷ turn (remove []) [] ∷ turn (set-root (codes "2")) (codes "2\n") ∷ [])
     ∷ []
 
+-- what one might not expect, and the original prints all the same: layouts that depart from its own comments, whitespace that only the tree remembers, a line break
+-- inside a block comment, commas and comments around a removed element
+abbrev pub surprises : List Case
+surprises =
+    case (codes "1\r\n") (turn (replace [] (codes "[[1]]")) (codes "[\n  [1]\n]\r\n") ∷ [])
+  ∷ case (codes "[\n    1\n]") (turn (replace [] (codes "[[1]]")) (codes "[\n  [1]\n]") ∷ [])
+  ∷ case (codes "[\n    1\n]") (turn (set-root (codes "[[1]]")) (codes "[\n  [1]\n]") ∷ [])
+  ∷ case (codes "{\n  \"a\": [1],\n}") (turn (replace (0 ∷ 0 ∷ 0 ∷ []) (codes "{\"b\":1}")) (codes "{\n  \"a\": [{\n    \"b\": 1\n  }],\n}") ∷ [])
+  ∷ case (codes "{\n  \"a\": 1,\n}") (turn (set-value (0 ∷ []) (codes "{\"b\":1}")) (codes "{\n  \"a\": {\n    \"b\": 1\n  },\n}") ∷ [])
+  ∷ case (codes "[\n  1\n]") (turn (replace (0 ∷ []) (codes "{\"b\":1}")) (codes "[\n  {\n  \"b\": 1\n}\n]") ∷ [])
+  ∷ case (codes "{\n  \"a\": [\n    1\n  ]\n}") (turn (replace (0 ∷ 0 ∷ 0 ∷ []) (codes "{\"b\":1}")) (codes "{\n  \"a\": [\n    {\n    \"b\": 1\n  }\n  ]\n}") ∷ [])
+  ∷ case (codes "{\n  \"a\": 1\n}") (turn (replace (0 ∷ 0 ∷ []) (codes "{\"b\":1}")) (codes "{\n  \"a\": {\n    \"b\": 1\n  }\n}") ∷ [])
+  ∷ case (codes "{\"a\":1}") (turn (set-value (0 ∷ []) (codes "{\"b\":1}")) (codes "{\"a\":{\n    \"b\": 1\n  }}") ∷ [])
+  ∷ case (codes "[[1]]") (turn (replace (0 ∷ 0 ∷ []) (codes "{\"b\":1}")) (codes "[[{\n    \"b\": 1\n  }]]") ∷ [])
+  ∷ case (codes " [\n [1]]") (turn (replace (0 ∷ 0 ∷ []) (codes "{\"k\":1}")) (codes " [\n [{\n \"k\": 1\n }]]") ∷ [])
+  ∷ case (codes "[\n   \n  1]") (turn (replace (0 ∷ []) (codes "{\"b\":1}")) (codes "[\n   \n  {\n   \"b\": 1\n}]") ∷ [])
+  ∷ case (codes "[1, 2]") (turn (remove (0 ∷ [])) (codes "[ 2]") ∷ [])
+  ∷ case (codes "[//c\n1 , ]") (turn (set-trailing-commas top Never) (codes "[//c\n1  ]") ∷ turn (remove (0 ∷ [])) (codes "[//c\n ]") ∷ [])
+  ∷ case (codes "[1,2 ,3 ]") (turn (remove (2 ∷ [])) (codes "[1,2  ]") ∷ turn (remove (1 ∷ [])) (codes "[1 ]") ∷ [])
+  ∷ case (codes "[1\n , 2  ]") (turn (remove (1 ∷ [])) (codes "[1\n   ]") ∷ turn (replace (0 ∷ []) (codes "[[1]]")) (codes "[[\n [1]\n]\n   ]") ∷ [])
+  ∷ case (codes "[[]\n , ]") (turn (set-trailing-commas top Never) (codes "[[]\n  ]") ∷ turn (ensure-multiline (0 ∷ [])) (codes "[[\n ]\n  ]") ∷ [])
+  ∷ case (codes "[\r1\n,\n2]") (turn (remove (0 ∷ [])) (codes "[\r\n2]") ∷ [])
+  ∷ case (codes "[1, /* a\n */ 2]") (turn (remove (0 ∷ [])) (codes "[ /* a\n */ 2]") ∷ [])
+  ∷ case (codes "[1 // a\n, 2]") (turn (remove (1 ∷ [])) (codes "[1 // a\n]") ∷ [])
+  ∷ case (codes "[1, 2,]") (turn (remove (1 ∷ [])) (codes "[1,]") ∷ [])
+  ∷ case (codes "[1 // a\n, // b\n 2]") (turn (remove (0 ∷ [])) (codes "[ // b\n 2]") ∷ [])
+  ∷ case (codes "// c\n  ") (turn (set-root (codes "null")) (codes "// c\n  null\n") ∷ [])
+  ∷ []
+
 -- each of them prints what the original prints
 abbrev pub Replayed : Type 0
-Replayed = All-hold cases
+Replayed = All-hold cases × All-hold surprises
