@@ -1,4 +1,5 @@
 pub mod Escaping
+mod EscapeVectors
 pub mod Fronts
 pub mod Prints
 pub mod Examples

@@ -4,8 +4,7 @@ use Rattle.model.specs.Rows.{All-hold}
 use Rattle.model.specs.Cases.{cases, surprises, Replayed}
 
 by-case : All-hold cases
-by-case =
-    (
+by-case = (
   (refl, tt),
   (
     (refl, tt),
