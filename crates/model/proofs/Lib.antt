@@ -22,3 +22,4 @@ pub mod Indented
 pub mod Steps
 pub mod Fewer
 pub mod Lines
+pub mod Questioned

@@ -14,3 +14,4 @@ pub mod Laws
 pub mod Account
 pub mod Promise
 pub mod Cases
+pub mod Questions

@@ -2,6 +2,7 @@
 //! The code stands in the crates above.
 
 ghost use Rattle.model.specs.Cases.{Replayed};
+ghost use Rattle.model.specs.Questions.{Asked};
 ghost use Rattle.model.specs.Rows.{Worked};
 
 pub mod laws;
@@ -16,6 +17,13 @@ pub fn worked_examples() -> u8
 /// So do the cases beside them, on odd layouts and in runs of edits, as the original prints them.
 pub fn replayed_cases() -> u8
     ensures { λ _. ⌜ Replayed ⌝ }
+{
+    0
+}
+
+/// And so do questions and refusals that one might answer otherwise.
+pub fn asked_questions() -> u8
+    ensures { λ _. ⌜ Asked ⌝ }
 {
     0
 }
