@@ -23,3 +23,9 @@ pub mod Steps
 pub mod Fewer
 pub mod Lines
 pub mod Questioned
+pub mod Tally
+pub mod Sowing
+pub mod Places
+pub mod Moves
+pub mod Leaves
+pub mod Given

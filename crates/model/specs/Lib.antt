@@ -15,3 +15,4 @@ pub mod Account
 pub mod Promise
 pub mod Cases
 pub mod Questions
+pub mod Given

@@ -5,6 +5,7 @@ ghost use Rattle.model.specs.Cases.{Replayed};
 ghost use Rattle.model.specs.Questions.{Asked};
 ghost use Rattle.model.specs.Rows.{Worked};
 
+pub mod handles;
 pub mod laws;
 
 /// The worked examples come out as they should: each text, loaded and edited, prints the bytes beside it.
