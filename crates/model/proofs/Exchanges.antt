@@ -74,7 +74,7 @@ exchange-fits f k s a ts g v h w = local-ways (λ y. Fits f y × Whole y) (excha
     (λ cs p i ks us e z. (let x = v i ks (subst (λ y. At y i ks ts) z (at-here cs p i ks us ts e)) in
     exchanged-fits f s a cs p i ks us g (x .0) (x .1) (subst (Fits f) (sym e) h) (subst Whole (sym e) w)))
 
-parts-append : (us ts : Nodes) → parts (append us ts) ≡ chain (parts us) (parts ts)
+pub parts-append : (us ts : Nodes) → parts (append us ts) ≡ chain (parts us) (parts ts)
 parts-append end ts = refl
 parts-append (node p i ks us) ts = go (class (i .sort)) (parts-append us ts)
   where

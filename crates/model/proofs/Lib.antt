@@ -29,3 +29,11 @@ pub mod Places
 pub mod Moves
 pub mod Leaves
 pub mod Given
+pub mod Ways
+pub mod Splits
+pub mod Walks
+pub mod Lying
+pub mod Puts
+pub mod Settled
+pub mod Rooted
+pub mod Lone

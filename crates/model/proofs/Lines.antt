@@ -20,7 +20,7 @@ use Rattle.model.proofs.Removes.{some-none}
 use Rattle.model.proofs.Loads.{whole-comments}
 
 -- a node's place in the layout, by its class
-abbrev layAt : Class → Label → Layout → Bool → (Bool → Layout) → Layout
+abbrev pub layAt : Class → Label → Layout → Bool → (Bool → Layout) → Layout
 layAt (gap blank) l k b r = r b
 layAt (gap break) l k b r = r true
 layAt (gap (remark c)) l k b r = note b c (r false)

@@ -147,7 +147,7 @@ pub comments-onto : (bs ts : Nodes) → comments (onto bs ts) ≡ notesBefore bs
 comments-onto end ts = refl
 comments-onto (node p i ks bs) ts = comments-onto bs (node p i ks ts) ∙ sym (append-assoc (notesBefore bs) (remarksOf (class (i .sort)) (comments ks)) (comments ts))
 
-comments-append : (us ts : Nodes) → comments (append us ts) ≡ comments us ++ comments ts
+pub comments-append : (us ts : Nodes) → comments (append us ts) ≡ comments us ++ comments ts
 comments-append end ts = refl
 comments-append (node p i ks us) ts = ap (λ y. remarksOf (class (i .sort)) (comments ks) ++ y) (comments-append us ts) ∙ sym (append-assoc (remarksOf (class (i .sort)) (comments ks)) (comments us) (comments ts))
 

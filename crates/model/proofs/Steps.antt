@@ -48,7 +48,7 @@ with-spot d h F k = go (spotAt (h .place) (d .kids)) refl
     go (Some s) e = cond-both (eqb (s .here .own .number) (h .number)) (Some s) None (λ y. Grows (andThen (present Gone y) F)) (λ z. k s e) (λ z. tt)
 
 -- a box that is no property takes no name
-no-title : (s : Sort) (b : Box) → s ≡ within b → isProperty s ≡ false → takes (of b) title ≡ false
+pub no-title : (s : Sort) (b : Box) → s ≡ within b → isProperty s ≡ false → takes (of b) title ≡ false
 no-title s array e n = refl
 no-title s object e n = refl
 no-title s property e n = absurd (true≢false (sym (ap isProperty e) ∙ n))
@@ -65,7 +65,7 @@ leaf-element (whitespace t) e = (let z : _≡_ {A = ℕ} 0 1 = cc in absurd (ome
 leaf-element (newline k) e = (let z : _≡_ {A = ℕ} 0 1 = cc in absurd (omega arith))
 leaf-element (comment c) e = (let z : _≡_ {A = ℕ} 0 1 = cc in absurd (omega arith))
 
-sort-element : (s : Sort) → class s ≡ value → isProperty s ≡ false → role s ≡ element
+pub sort-element : (s : Sort) → class s ≡ value → isProperty s ≡ false → role s ≡ element
 sort-element root e n = refl
 sort-element (within array) e n = refl
 sort-element (within object) e n = refl
@@ -73,12 +73,34 @@ sort-element (within property) e n = absurd (true≢false n)
 sort-element (single x) e n = leaf-element x e
 
 -- a value where no property is taken is an element
-taken-element : (f : Owner) (s : Sort) → class s ≡ value → takes f Role.member ≡ false → takes f (role s) ≡ true → role s ≡ element
+pub taken-element : (f : Owner) (s : Sort) → class s ≡ value → takes f Role.member ≡ false → takes f (role s) ≡ true → role s ≡ element
 taken-element f root e n h = refl
 taken-element f (within array) e n h = refl
 taken-element f (within object) e n h = refl
 taken-element f (within property) e n h = absurd (true≢false (sym h ∙ n))
 taken-element f (single x) e n h = leaf-element x e
+
+-- siblings at the root without a value are trivia
+leaf-trivial : (x : Leaf) → takes top (role (single x)) ≡ true → isValue (class (single x)) ≡ false → (g : Gap) × (class (single x) ≡ gap g)
+leaf-trivial null t e = absurd (true≢false e)
+leaf-trivial (boolean b) t e = absurd (true≢false e)
+leaf-trivial (number u) t e = absurd (true≢false e)
+leaf-trivial (string u) t e = absurd (true≢false e)
+leaf-trivial (name u) t e = absurd (false≢true t)
+leaf-trivial (token m) t e = absurd (false≢true t)
+leaf-trivial (whitespace u) t e = (Gap.blank, refl)
+leaf-trivial (newline k) t e = (Gap.break, refl)
+leaf-trivial (comment c) t e = (Gap.remark c, refl)
+
+sort-trivial : (s : Sort) → takes top (role s) ≡ true → isValue (class s) ≡ false → (g : Gap) × (class s ≡ gap g)
+sort-trivial root t e = absurd (true≢false e)
+sort-trivial (within b) t e = absurd (true≢false e)
+sort-trivial (single x) t e = leaf-trivial x t e
+
+pub none-trivial : (ks : Nodes) → Taken top ks → valueIn ks ≡ None → Each Trivial ks
+none-trivial end t = λ e. tt
+none-trivial (node q i us ts) t = cond-both (isValue (class (i .sort))) (Some (handle q i)) (valueIn ts) (λ y. y ≡ None → Each Trivial (node q i us ts))
+    (λ z e. absurd (some-none (handle q i) e)) (λ z e. (sort-trivial (i .sort) (t .0) z, none-trivial ts (t .1) e))
 
 module _ (d : State) (p : Placed (d .kids)) (doc : Document (d .kids)) where
   -- the container of a node that is found
@@ -219,28 +241,6 @@ module _ (d : State) (p : Placed (d .kids)) (doc : Document (d .kids)) where
       go : (x : Option Handle) → valueIn (s .kids) ≡ x → Grows (valuePlan d v s (then x (λ h. spotAt (h .place) (d .kids))))
       go None m = tt
       go (Some h) m = at h m (spotAt (h .place) (d .kids)) refl
-
-  -- siblings at the root without a value are trivia
-  leaf-trivial : (x : Leaf) → takes top (role (single x)) ≡ true → isValue (class (single x)) ≡ false → (g : Gap) × (class (single x) ≡ gap g)
-  leaf-trivial null t e = absurd (true≢false e)
-  leaf-trivial (boolean b) t e = absurd (true≢false e)
-  leaf-trivial (number u) t e = absurd (true≢false e)
-  leaf-trivial (string u) t e = absurd (true≢false e)
-  leaf-trivial (name u) t e = absurd (false≢true t)
-  leaf-trivial (token m) t e = absurd (false≢true t)
-  leaf-trivial (whitespace u) t e = (Gap.blank, refl)
-  leaf-trivial (newline k) t e = (Gap.break, refl)
-  leaf-trivial (comment c) t e = (Gap.remark c, refl)
-
-  sort-trivial : (s : Sort) → takes top (role s) ≡ true → isValue (class s) ≡ false → (g : Gap) × (class s ≡ gap g)
-  sort-trivial root t e = absurd (true≢false e)
-  sort-trivial (within b) t e = absurd (true≢false e)
-  sort-trivial (single x) t e = leaf-trivial x t e
-
-  none-trivial : (ks : Nodes) → Taken top ks → valueIn ks ≡ None → Each Trivial ks
-  none-trivial end t = λ e. tt
-  none-trivial (node q i us ts) t = cond-both (isValue (class (i .sort))) (Some (handle q i)) (valueIn ts) (λ y. y ≡ None → Each Trivial (node q i us ts))
-      (λ z e. absurd (some-none (handle q i) e)) (λ z e. (sort-trivial (i .sort) (t .0) z, none-trivial ts (t .1) e))
 
   root-grows : (v : Value) → Showable v → (x : Option Handle) → valueIn (d .kids) ≡ x → Grows (Given (rootPlan d v x))
   root-grows v w None e u = root-document _ u _ (d .kids) (stands _ _ rootIndents v root-blank w) (none-trivial (d .kids) (doc .fits .taken) e) doc

@@ -16,3 +16,4 @@ pub mod Promise
 pub mod Cases
 pub mod Questions
 pub mod Given
+pub mod Accounted

@@ -5,6 +5,7 @@ ghost use Rattle.model.specs.Cases.{Replayed};
 ghost use Rattle.model.specs.Questions.{Asked};
 ghost use Rattle.model.specs.Rows.{Worked};
 
+pub mod accounts;
 pub mod handles;
 pub mod laws;
 
