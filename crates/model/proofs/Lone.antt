@@ -27,6 +27,7 @@ leaf-unmarked (whitespace u) m t e = (let z : _≡_ {A = ℕ} 0 1 = cc in omega 
 leaf-unmarked (newline u) m t e = (let z : _≡_ {A = ℕ} 0 1 = cc in omega arith)
 leaf-unmarked (comment u) m t e = (let z : _≡_ {A = ℕ} 0 1 = cc in omega arith)
 
+-- no node of a mark's class is taken at the root
 unmarked : (s : Sort) (m : Mark) → takes top (role s) ≡ true → class s ≡ mark m → ⊥
 unmarked root m t e = (let z : _≡_ {A = ℕ} 0 1 = cc in omega arith)
 unmarked (within b) m t e = (let z : _≡_ {A = ℕ} 0 1 = cc in omega arith)
@@ -55,6 +56,7 @@ abbrev pub Lone : Parts Handle → Type 0
 Lone nil = Unit {0}
 Lone (part i l ks ts) = ts ≡ nil
 
+-- from where a value may come, one comes at most
 lone-from : (l : Bool) (ts : Nodes) → Taken top ts → Ends top (run (here items l) ts) → Lone (parts ts)
 lone-from l end t e = tt
 lone-from l (node p i ks ts) t e = go (class (i .sort)) l (unmarked (i .sort)) refl e (λ k. lone-from k ts (t .1)) (none-after false ts (t .1))

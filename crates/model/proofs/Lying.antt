@@ -25,11 +25,13 @@ use Rattle.model.proofs.Spots.{Spotted, the-root, a-node, spot-found}
 use Rattle.model.proofs.Ways.{off, as-value}
 use Rattle.model.proofs.Walks.{holder, among-count, below-count}
 
+-- what is there is one
 some-same : {A : Type 0} (a b : A) → Some a ≡ Some b → a ≡ b
 some-same a b e = cc
 
 -- THE WAY TO A HANDLE
 
+-- a handle is the same as itself
 same-refl : (h : Handle) → same h h ≡ true
 same-refl h = ap (λ b. b && eqb (h .number) (h .number)) (eq-eqb (h .place) (h .place) refl) ∙ eq-eqb (h .number) (h .number) refl
 
@@ -66,11 +68,13 @@ way-down h p i ks ts n q v o z e =
     ∙ (ap (λ y. answer (y && eqb (i .number) (h .number)) (wayTo h (parts ks)) (wayTo h (parts ts))) (off p (h .place) 0 (omega arith))
     ∙ ap (λ y. orElse (level y) (behind (wayTo h (parts ts)))) e)
 
+-- the way to one of the siblings
 among-way : (h : Handle) (ts : Nodes) (n : ℕ) → Among h ts n → count (h .place) ts ≤ 1 → wayTo h (parts ts) ≡ Some (n, [])
 among-way h _ _ (first p i ks ts e v) o =
     ap (wayTo h) (as-value p i ks ts v) ∙ ap (λ y. answer y (wayTo h (parts ks)) (wayTo h (parts ts))) (ap (λ y. same y h) e ∙ same-refl h)
 among-way h _ _ (later p i ks ts n e a) o = way-past h p i ks ts n [] o (among-count h ts n a) (among-way h ts n a (omega arith)) (class (i .sort))
 
+-- the way to one below them
 below-way : (c : ℕ) (h : Handle) (ts : Nodes) (n : ℕ) (q : List ℕ) → Below c h ts n q → count (h .place) ts ≤ 1 → wayTo h (parts ts) ≡ Some (n, q)
 below-way c h _ _ _ (child p i ks ts j e v a) o = way-down h p i ks ts j [] v o (among-count h ks j a) (among-way h ks j a (omega arith))
 below-way c h _ _ _ (deeper p i ks ts j q e z v b) o = way-down h p i ks ts j q v o (below-count c h ks j q b .1) (below-way c h ks j q b (omega arith))
@@ -88,6 +92,7 @@ data Placing (h : Handle) (us : List Frame) (ts : Nodes) (s : Spot) : Type 0 whe
   beside : s .ups ≡ us → (n : ℕ) → Among h ts n → Placing h us ts s
   lower : (f : Frame) (vs : List Frame) → s .ups ≡ f ∷ vs → (n : ℕ) (q : List ℕ) → Below (f .place) h ts n q → Placing h us ts s
 
+-- a value that is found is one of the siblings or below them
 placing : (k : ℕ) (us : List Frame) (bs ts : Nodes) (s : Spot) → Whole ts → ((c : ℕ) → count c ts ≤ 1) → class (sortOf s) ≡ value → spotIn k us bs ts ≡ Some s → Placing (spotHandle s) us ts s
 placing k us bs end s w o v = λ e. absurd (some-none s (sym e))
 placing k us bs (node p i ks ts) s w o v =
@@ -109,6 +114,7 @@ placing k us bs (node p i ks ts) s w o v =
     after (lower f vs e n q b) = (let m = below-count (f .place) (spotHandle s) ts n q b .0 in let x = o (f .place) in
         lower f vs e (counted (class (i .sort)) n) q (along p i ks ts n q (off p (f .place) 0 (omega arith)) (omega arith) b))
 
+-- the first of equal lists is one
 head-same : (f g : Frame) (us vs : List Frame) → f ∷ us ≡ g ∷ vs → f ≡ g
 head-same f g us vs e = cc
 
@@ -145,11 +151,13 @@ way-path : (n : ℕ) (q p : List ℕ) → fromRoot n q ≡ Some p → (n ≡ 0) 
 way-path zero q p e = (refl, cc)
 way-path (suc n) q p e = absurd (some-none p (sym e))
 
+-- a node that lies somewhere and has a path lies there
 pub path-lies : (c : ℕ) (h : Handle) (ts : Nodes) (n : ℕ) (q p : List ℕ) → Placed ts → path h (parts ts) ≡ Some p → Lies c h ts n q → Lies c h ts 0 p
 path-lies c h ts n q p d e a =
     let m = way-path n q p (ap pathTo (sym (lies-way c h ts n q a (d .once (h .place)))) ∙ e) in
     subst (λ y. Lies c h ts 0 y) (m .1) (subst (λ y. Lies c h ts y q) (m .0) a)
 
+-- a spot is at the place that was asked
 pub spot-place : (k : ℕ) (ts : Nodes) (s : Spot) → Spotted k ts s → s .here .place ≡ k
 spot-place k ts s (the-root e _ m _ _) = m ∙ sym e
 spot-place k ts s (a-node e _ _) = e

@@ -38,15 +38,18 @@ Solid end = ⊥
 Solid (node p i ks end) = (us vs : Pieces) → nameOf (piece (i .sort) (pieces ks) us) ≡ nameOf (piece (i .sort) (pieces ks) vs)
 Solid (node p i ks (node q j ls bs)) = Solid (node q j ls bs)
 
+-- one sibling more changes nothing of that
 solid-more : (p : ℕ) (i : Own) (ks bs : Nodes) → Solid bs → Solid (node p i ks bs)
 solid-more p i ks end h = absurd h
 solid-more p i ks (node q j ls bs) h = h
 
+-- what stands behind them does not change the name
 name-onto : (bs x y : Nodes) → Solid bs → nameOf (pieces (onto bs x)) ≡ nameOf (pieces (onto bs y))
 name-onto end x y h = absurd h
 name-onto (node p i ks end) x y h = h (pieces x) (pieces y)
 name-onto (node p i ks (node q j ls bs)) x y h = name-onto (node q j ls bs) (node p i ks x) (node p i ks y) h
 
+-- so a value put behind them keeps the name
 name-from : (k : ℕ) (us bs ts : Nodes) → Solid bs → nameOf (pieces (localFrom (exchanged us) k bs ts)) ≡ nameOf (pieces (onto bs ts))
 name-from k us bs end h = refl
 name-from k us bs (node p i ks ts) h = cond-both (eqb p k) (onto bs (append us ts)) (localFrom (exchanged us) k (node p i ks bs) ts) (λ y. nameOf (pieces y) ≡ nameOf (pieces (onto bs (node p i ks ts))))
@@ -58,22 +61,26 @@ first-mark (gap g) ts e v = no-dead (of property) ts e
 first-mark (mark m) ts e v = (let y : _≡_ {A = ℕ} 0 1 = cc in omega arith)
 first-mark value ts e v = no-dead (of property) ts e
 
+-- every node but the root has a piece of its own
 solid-sort : (s : Sort) (ks : Nodes) → Holds s ks → (us vs : Pieces) → nameOf (piece s (pieces ks) us) ≡ nameOf (piece s (pieces ks) vs)
 solid-sort root ks h us vs = absurd h
 solid-sort (within b) ks h us vs = refl
 solid-sort (single x) ks h us vs = refl
 
+-- a value put in a property keeps its name
 pub name-exchanged : (k : ℕ) (us ks : Nodes) → Fits (of property) ks → Whole ks → ((i : Own) (vs : Nodes) → At k i vs ks → class (i .sort) ≡ value) → nameOf (pieces (local (exchanged us) k ks)) ≡ nameOf (pieces ks)
 name-exchanged k us end f w v = refl
 name-exchanged k us (node p i ks ts) f w v = cond-both (eqb p k) (onto end (append us ts)) (localFrom (exchanged us) k (node p i ks end) ts) (λ y. nameOf (pieces y) ≡ nameOf (pieces (node p i ks ts)))
     (λ e. absurd (first-mark (class (i .sort)) ts (f .ends) (v i ks (inl (eqb-true p k e, refl, refl)))))
     (λ e. name-from k us (node p i ks end) ts (solid-sort (i .sort) ks (w .0)))
 
+-- a container whose name stays keeps its label
 label-kept : (j : Own) (b : Box) (us vs : Pieces) → j .sort ≡ within b → (b ≡ property → nameOf us ≡ nameOf vs) → labelOf (j .sort) us ≡ labelOf (j .sort) vs
 label-kept j array us vs e n = ap (λ s. labelOf s us) e ∙ sym (ap (λ s. labelOf s vs) e)
 label-kept j object us vs e n = ap (λ s. labelOf s us) e ∙ sym (ap (λ s. labelOf s vs) e)
 label-kept j property us vs e n = ap (λ s. labelOf s us) e ∙ (ap Member (n refl) ∙ sym (ap (λ s. labelOf s vs) e))
 
+-- what is whole is whole below
 whole-below : (c : ℕ) (j : Own) (ks ts : Nodes) → At c j ks ts → Whole ts → Whole ks
 whole-below c j ks end a w = absurd a
 whole-below c j ks (node p o vs ts) (inl a) w = subst Whole (a .2) (w .1)
@@ -104,6 +111,7 @@ value-among o (node p i ks ts) c = go (class (i .sort)) refl (value-among o ts (
 
 -- a child of a node that lies at a path lies one level further
 module _ (h o : Handle) (i : Own) (us : Nodes) (j : ℕ) (m : Among o us j) where
+  -- the child of one of the siblings
   among-down : (ts : Nodes) (n : ℕ) → Among h ts n → count (h .place) ts ≤ 1 → At (h .place) i us ts → Below (h .place) o ts n (j ∷ [])
   among-down _ _ (first p k ks ts e v) c a =
       let x = at-once (h .place) k i ks us (node p k ks ts) c (inl (ap (λ y. y .place) e, refl, refl)) a in
@@ -112,6 +120,7 @@ module _ (h o : Handle) (i : Own) (us : Nodes) (j : ℕ) (m : Among o us j) wher
   among-down _ _ (later p k ks ts n e r) c (inr (inl a)) = absurd (omega (arith, among-count h ts n r, at-count (h .place) i us ks a))
   among-down _ _ (later p k ks ts n e r) c (inr (inr a)) = along p k ks ts n (j ∷ []) e (omega (arith, among-count h ts n r)) (among-down ts n r (omega arith) a)
 
+  -- the child of one below them
   below-down : (c : ℕ) (ts : Nodes) (n : ℕ) (q : List ℕ) → Below c h ts n q → count (h .place) ts ≤ 1 → At (h .place) i us ts → Below (h .place) o ts n (q ++ j ∷ [])
   below-down c _ _ _ (child p k ks ts n e v r) l (inl a) = absurd (omega (arith, among-count h ks n r, one-eq p (h .place) (a .0)))
   below-down c _ _ _ (child p k ks ts n e v r) l (inr (inl a)) = (let z = among-count h ks n r in deeper p k ks ts n (j ∷ []) (off p (h .place) 0 (omega arith)) (omega arith) v (among-down ks n r (omega arith) a))
@@ -123,6 +132,7 @@ module _ (h o : Handle) (i : Own) (us : Nodes) (j : ℕ) (m : Among o us j) wher
   below-down c _ _ _ (along p k ks ts n q e z r) l (inr (inl a)) = absurd (omega (arith, below-count c h ts n q r .1, at-count (h .place) i us ks a))
   below-down c _ _ _ (along p k ks ts n q e z r) l (inr (inr a)) = (let y = below-count c h ts n q r .1 in along p k ks ts n (q ++ j ∷ []) (off p (h .place) 0 (omega arith)) (omega arith) (below-down c ts n q r (omega arith) a))
 
+  -- the child of any node
   pub lies-down : (c : ℕ) (ts : Nodes) (n : ℕ) (q : List ℕ) → eqb (h .place) 0 ≡ false → Lies c h ts n q → count (h .place) ts ≤ 1 → At (h .place) i us ts → Lies (h .place) o ts n (q ++ j ∷ [])
   lies-down c ts _ _ z (on-top n e r) l a = inside n (j ∷ []) z (among-down ts n r l a)
   lies-down c ts _ _ z (inside n q e r) l a = inside n (q ++ j ∷ []) z (below-down c ts n q r l a)
@@ -137,6 +147,7 @@ handled-is f (part i l ks ts) e =
     ∙ (ap (λ x. part i l x (handled (λ k p. f (suc k) p) (bare ts))) (handled-is (λ j p. f 0 (j ∷ p)) ks (λ j p. e 0 (j ∷ p)))
     ∙ ap (λ x. part i l ks x) (handled-is (λ k p. f (suc k) p) ts (λ k p. e (suc k) p)))
 
+-- one value with the handles that its paths answer is itself
 pub with-at : (f : List ℕ → Option Handle) (v : Parts Handle) → Alone v → ((p : List ℕ) → f p ≡ at v 0 p) → withHandles f (bare v) ≡ v
 with-at f nil e h = refl
 with-at f (part i l ks ts) e h =
@@ -152,6 +163,7 @@ at-change i l ks us (part j m vs ws) zero (n ∷ p) q h e = at-change i l ks us 
 at-change i l ks us (part j m vs ws) (suc k) [] q h e = at-change i l ks us ws k [] q h e
 at-change i l ks us (part j m vs ws) (suc k) (n ∷ p) q h e = at-change i l ks us ws k (n ∷ p) q h e
 
+-- the same, of a value put at a path of a document
 pub at-put : (w v : Parts Handle) (p q : List ℕ) (h : Handle) → Alone w → at v 0 p ≡ Some h → at (put w v p) 0 (p ++ q) ≡ at w 0 q
 at-put nil v p q h o e = absurd o
 at-put (part i l ks us) v p q h o e = at-change i l ks us v 0 p q h e ∙ ap (λ y. at (part i l ks y) 0 q) (sym o)

@@ -34,10 +34,12 @@ before-empty end n s = record { valueless = refl; quiet = refl }
 before-empty (node p i ks bs) n s = cond-both (isRemark (class (i .sort))) (leaf (newline n) no-pieces) no-pieces (λ x. Empty (sown s x))
     (λ e. record { valueless = refl; quiet = refl }) (λ e. record { valueless = refl; quiet = refl })
 
+-- a Newline behind the value, or nothing
 behind-empty : (ts : Nodes) (n : Break) (s : Supply) → Empty (sown s (breakBehind ts n))
 behind-empty end n s = record { valueless = refl; quiet = refl }
 behind-empty (node p i ks ts) n s = record { valueless = refl; quiet = refl }
 
+-- nothing behind parts changes nothing
 chain-nil : (v : Parts Handle) → chain v nil ≡ v
 chain-nil nil = refl
 chain-nil (part h l ks ts) = ap (part h l ks) (chain-nil ts)
@@ -50,6 +52,7 @@ put-parts bs x us y ts h a b c =
     ∙ (parts-append x (append us (append y ts)) ∙ (ap (λ v. chain v (parts (append us (append y ts)))) (a .valueless)
     ∙ (parts-append us (append y ts) ∙ (ap (chain (parts us)) (parts-append y ts ∙ (ap (λ v. chain v (parts ts)) (b .valueless) ∙ c .valueless)) ∙ chain-nil (parts us))))))
 
+-- the comments before it are all there are
 put-comments : (bs x us y ts : Nodes) → Empty x → comments us ≡ [] → Empty y → Empty ts → comments (onto bs (append x (append us (append y ts)))) ≡ notesBefore bs
 put-comments bs x us y ts a u b c =
     comments-onto bs (append x (append us (append y ts)))
@@ -65,6 +68,7 @@ break-class (gap (remark c)) e = absurd (false≢true e)
 break-class (mark m) e = absurd (false≢true e)
 break-class value e = absurd (false≢true e)
 
+-- a Newline has no value and no comments
 break-empty : (p : ℕ) (i : Own) (ks : Nodes) → class (i .sort) ≡ gap break → Empty (node p i ks end)
 break-empty p i ks e = record {
   valueless = ap (λ c. partsAt c (handle p i) (labelOf (i .sort) (pieces ks)) (parts ks) nil) e;
@@ -77,6 +81,7 @@ record Says (a : Pieces) (bs ts : Nodes) : Type 0 where
   value-is : parts ts ≡ parts (sown supply a)
   comments-are : comments ts ≡ notesBefore bs
 
+-- what the cut root says after the value is put into it
 cut-says : (n : Break) (a : Pieces) (s : Supply) (bs : Nodes) → ((u : Supply) → comments (sown u a) ≡ []) → Each Trivial bs → Says a bs (rootPut (cutAt bs) n a s)
 cut-says n a s end q h =
     let x : Pieces = breakBefore end n in

@@ -48,15 +48,18 @@ at-past h p i ks ts n q e (gap g) = e
 at-past h p i ks ts n q e (mark m) = e
 at-past h p i ks ts n q e value = e
 
+-- the path of one of the siblings
 among-at : (h : Handle) (ts : Nodes) (n : ℕ) → Among h ts n → at (parts ts) n [] ≡ Some h
 among-at h _ _ (first p i ks ts e v) = ap (λ y. at y 0 []) (as-value p i ks ts v) ∙ ap Some e
 among-at h _ _ (later p i ks ts n e a) = at-past h p i ks ts n [] (among-at h ts n a) (class (i .sort))
 
+-- the path of one below them
 below-at : (c : ℕ) (h : Handle) (ts : Nodes) (n : ℕ) (q : List ℕ) → Below c h ts n q → at (parts ts) n q ≡ Some h
 below-at c h _ _ _ (child p i ks ts j e v a) = ap (λ y. at y 0 (j ∷ [])) (as-value p i ks ts v) ∙ among-at h ks j a
 below-at c h _ _ _ (deeper p i ks ts j q e z v b) = ap (λ y. at y 0 (j ∷ q)) (as-value p i ks ts v) ∙ below-at c h ks j q b
 below-at c h _ _ _ (along p i ks ts n q e z b) = at-past h p i ks ts n q (below-at c h ts n q b) (class (i .sort))
 
+-- the path of any node
 pub lies-at : (c : ℕ) (h : Handle) (ts : Nodes) (n : ℕ) (q : List ℕ) → Lies c h ts n q → at (parts ts) n q ≡ Some h
 lies-at c h ts _ _ (on-top n e a) = among-at h ts n a
 lies-at c h ts _ _ (inside n q e b) = below-at c h ts n q b
@@ -69,18 +72,21 @@ record Facts (h : Handle) (ts : Nodes) (s : Spot) (f : Frame) : Type 0 where
   box : IsContainer (f .place) ts
   no-property : isProperty (f .own .sort) ≡ false → IsBracketed (f .place) ts
 
+-- the parent of a node is the root or a container
 container-at : (ts : Nodes) → Placed ts → Document ts → (k : ℕ) (i : Own) (ks : Nodes) (f : Frame) (vs : List Frame) → Parent k ts i ks (f ∷ vs) → IsContainer (f .place) ts
 container-at ts p doc k i ks _ _ (at-root f z o) = subst (λ y. IsContainer y ts) (sym z) (root-container ts p)
 container-at ts p doc k i ks _ _ (at-node f vs us a b) =
     let x = parent-box (f .own .sort) k i ks us (holds-at (f .place) (f .own) us ts a (doc .whole)) b in
     container-of ts p (f .place) (f .own) us (x .0) a (x .1)
 
+-- a parent that is no property is the root, an array or an object
 bracketed-at : (ts : Nodes) → Placed ts → Document ts → (k : ℕ) (i : Own) (ks : Nodes) (f : Frame) (vs : List Frame) → Parent k ts i ks (f ∷ vs) → isProperty (f .own .sort) ≡ false → IsBracketed (f .place) ts
 bracketed-at ts p doc k i ks _ _ (at-root f z o) n = subst (λ y. IsBracketed y ts) (sym z) (root-bracketed ts p)
 bracketed-at ts p doc k i ks _ _ (at-node f vs us a b) n =
     let x = parent-box (f .own .sort) k i ks us (holds-at (f .place) (f .own) us ts a (doc .whole)) b in
     bracketed-of ts p (f .place) (f .own) us (x .0) a (x .1) (no-title (f .own .sort) (x .0) (x .1) n)
 
+-- what holds of a node that is found
 facts : (h : Handle) (ts : Nodes) (s : Spot) (f : Frame) (p : List ℕ) → Found h ts s f p → Facts h ts s f
 facts h ts s f p x = go (spot-found (h .place) ts s (named-spot h ts s (x .is-named) .0))
   where
@@ -93,6 +99,7 @@ facts h ts s f p x = go (spot-found (h .place) ts s (named-spot h ts s (x .is-na
       no-property = bracketed-at ts (x .placed) (x .document) (h .place) (s .here .own) (s .kids) f (x .above) r;
     })
 
+-- a node that is found lies at its path
 found-lies : (h : Handle) (ts : Nodes) (s : Spot) (f : Frame) (p : List ℕ) → Found h ts s f p → Lies (f .place) h ts 0 p
 found-lies h ts s f p x = named-lies h ts s f (x .above) p (x .document .whole) (x .placed) (x .is-named) (x .parent) (x .is-value) (x .has-path)
 
@@ -120,6 +127,7 @@ exchanged-so : (c : ℕ) (h : Handle) (ts : Nodes) (p : List ℕ) (us : Nodes) �
 exchanged-so c h ts p us d n b v l =
     (exchange-named c (h .place) us ts b v (d .whole) ∙ swapped-by-path c h ts p (parts us) (n .alone) l, exchange-less c h us ts p (n .quiet) l (d .whole))
 
+-- after replace, value and comments are the account's
 replace-accounted : (h : Handle) (ts : Nodes) (s : Spot) (f : Frame) (p : List ℕ) (us : Nodes) → Found h ts s f p → isProperty (sortOf s) ≡ false → Fresh us
     → (parts (exchange (f .place) (s .here .place) us ts) ≡ put (parts us) (parts ts) p) × (comments (exchange (f .place) (s .here .place) us ts) ≡ less (lostInside (layout (pieces ts)) p) (comments ts))
 replace-accounted h ts s f p us x n u =
@@ -130,6 +138,7 @@ replace-accounted h ts s f p us x n u =
 
 -- SET_VALUE, SET_ROOT
 
+-- a property is a container
 property-box : (s : Sort) → isProperty s ≡ true → s ≡ within property
 property-box root e = absurd (false≢true e)
 property-box (within array) e = absurd (false≢true e)
@@ -142,12 +151,14 @@ among-node : (f : Owner) (h : Handle) (ts : Nodes) (n : ℕ) → Among h ts n �
 among-node f h _ _ (first p i ks ts e v) t = (i, ks, inl (ap (λ y. y .place) e, refl, refl), v, t .0)
 among-node f h _ _ (later p i ks ts n e a) t = (let m = among-node f h ts n a (t .1) in (m .0, m .1, inr (inr (m .2)), m .3, m .4))
 
+-- a place stands in a child list no more often than in all
 at-less : (k c : ℕ) (j : Own) (ks ts : Nodes) → At c j ks ts → count k ks ≤ count k ts
 at-less k c j ks end a = absurd a
 at-less k c j ks (node p i us ts) (inl a) = (let e = ap (count k) (a .2) in omega arith)
 at-less k c j ks (node p i us ts) (inr (inl a)) = omega (arith, at-less k c j ks us a)
 at-less k c j ks (node p i us ts) (inr (inr a)) = omega (arith, at-less k c j ks ts a)
 
+-- after set_value likewise
 set-value-accounted : (h : Handle) (ts : Nodes) (s : Spot) (f : Frame) (p : List ℕ) (o : Handle) (us : Nodes) → Found h ts s f p → isProperty (sortOf s) ≡ true → valueIn (s .kids) ≡ Some o → Fresh us
     → (atPath (parts ts) (p ++ 0 ∷ []) ≡ Some o) × (parts (exchange (s .here .place) (o .place) us ts) ≡ put (parts us) (parts ts) (p ++ 0 ∷ []))
     × (comments (exchange (s .here .place) (o .place) us ts) ≡ less (lostInside (layout (pieces ts)) (p ++ 0 ∷ [])) (comments ts))
@@ -165,6 +176,7 @@ set-value-accounted h ts s f p o us x n e u =
     (element-of ts (x .placed) (o .place) (g .0) (g .1) (at-inside (h .place) (o .place) (s .here .own) (g .0) (s .kids) (g .1) ts (m .stands) (g .2)) (g .3) (taken-element (of property) (g .0 .sort) (g .3) refl (g .4))) l) in
     (lies-at (h .place) o ts 0 (p ++ 0 ∷ []) l, r .0, r .1)
 
+-- after set_root on a root with a value likewise
 set-root-accounted : (ts : Nodes) (o : Handle) (us : Nodes) → Document ts → Placed ts → valueIn ts ≡ Some o → Fresh us
     → (atPath (parts ts) [] ≡ Some o) × (parts (exchange 0 (o .place) us ts) ≡ put (parts us) (parts ts) []) × (comments (exchange 0 (o .place) us ts) ≡ less (lostInside (layout (pieces ts)) []) (comments ts))
 set-root-accounted ts o us d p e u =
@@ -176,24 +188,29 @@ set-root-accounted ts o us d p e u =
 
 -- WHAT IS WRITTEN
 
+-- parts that say nothing are none
 nil-one : (v : Parts Handle) (w : Value) → bare v ≡ w → IsNil w → v ≡ nil
 nil-one nil w e h = refl
 nil-one (part i l ks ts) w e h = absurd (subst IsNil (sym e) h)
 
+-- parts that say one value are one
 one-alone : (v : Parts Handle) (w : Value) → bare v ≡ w → IsOne w → Alone v
 one-alone nil w e h = subst IsOne (sym e) h
 one-alone (part i l ks ts) w e h = nil-one ts (bare ts) refl (subst IsOne (sym e) h)
 
+-- one value escaped is one
 spelled-one : (v : Value) → IsOne v → IsOne (spelled v)
 spelled-one nil h = h
 spelled-one (part u l ks nil) h = tt
 spelled-one (part u l ks (part w m vs ts)) h = absurd h
 
+-- what a source shows is written as one value without comments
 shown-fresh : (st : Style) (t : List ℕ) (v : Value) (s : Supply) → Showable v → Fresh (sown s (written st t v)) × (bare (parts (sown s (written st t v))) ≡ spelled v)
 shown-fresh st t v s w =
     let e = written-says st t v s (w .1) in
     (record { alone = one-alone (parts (sown s (written st t v))) (spelled v) e (spelled-one v (w .0)); quiet = written-quiet st t v s }, e)
 
+-- so is what can be written
 written-fresh : (st : Style) (t : List ℕ) (v : Value) (s : Supply) → Writable st t v → Fresh (sown s (written st t v)) × (bare (parts (sown s (written st t v))) ≡ spelled v)
 written-fresh st t v s w =
     let e = written-says st t v s (w .shaped) in
@@ -201,10 +218,12 @@ written-fresh st t v s w =
 
 -- A ROOT WITHOUT A VALUE
 
+-- trivia has no value
 trivial-parts : (ts : Nodes) → Each Trivial ts → parts ts ≡ nil
 trivial-parts end h = refl
 trivial-parts (node p i ks ts) h = ap (λ c. partsAt c (handle p i) (labelOf (i .sort) (pieces ks)) (parts ks) (parts ts)) (h .0 .1) ∙ trivial-parts ts (h .1)
 
+-- after set_root on a root without a value, the value is the written one and all comments stay
 first-root-accounted : (n : Break) (s : Supply) (st : Style) (t : List ℕ) (v : Value) (ts : Nodes) → Writable st t v → Document ts → valueIn ts ≡ None
     → (parts ts ≡ nil) × Alone (parts (rootPut (rootCut ts) n (written st t v) s)) × (bare (parts (rootPut (rootCut ts) n (written st t v) s)) ≡ spelled v)
     × (withHandles (atPath (parts (rootPut (rootCut ts) n (written st t v) s))) (spelled v) ≡ parts (rootPut (rootCut ts) n (written st t v) s))
@@ -225,6 +244,7 @@ clear-accounted ts d = less-split (lostAll (layout (pieces ts))) (comments ts) (
 -- PLANS
 
 module _ (d : State) (h : Handle) (p : Placed (d .kids)) (doc : Document (d .kids)) where
+  -- the plan of remove at a node that is found
   remove-told : (s : Spot) → named h (d .kids) ≡ Some s → (us : List Frame) → s .ups ≡ us → Removes-so d h (removePlan d s us)
   remove-told s e [] q = tt
   remove-told s e (f ∷ us) q = cond-both (isValue (class (sortOf s)) && not (isProperty (f .own .sort))) (Given _) (Refused NotHere) (Removes-so d h)
@@ -233,6 +253,7 @@ module _ (d : State) (h : Handle) (p : Placed (d .kids)) (doc : Document (d .kid
       (x .0, x .1 .has-path, λ u. remove-accounted h (d .kids) s f (x .0) (x .1) (not-true (isProperty (f .own .sort)) (y .1)))))
       (λ z. tt)
 
+  -- the plan of replace at a node that is found
   replace-told : (v : Value) → Showable v → (s : Spot) → named h (d .kids) ≡ Some s → (us : List Frame) → s .ups ≡ us → Replaces-so d h v (replacePlan d v s us)
   replace-told v w s e [] q = tt
   replace-told v w s e (f ∷ us) q = cond-both (isValue (class (sortOf s)) && not (isProperty (sortOf s))) (Given _) (Refused NotHere) (Replaces-so d h v)
@@ -242,6 +263,7 @@ module _ (d : State) (h : Handle) (p : Placed (d .kids)) (doc : Document (d .kid
       let r = replace-accounted h (d .kids) s f (x .0) _ (x .1) (not-true (isProperty (sortOf s)) (y .1)) (g .0) in (_, g .0 .alone, g .1, r .0, r .1)))))
       (λ z. tt)
 
+  -- the plans of remove and replace, accepted or refused
   plans-accounted : Removes-so d h (planned d (Remove h)) × ((v : Value) → Showable v → Replaces-so d h v (planned d (Replace h v)))
   plans-accounted = (go (named h (d .kids)) refl, λ v w. on v w (named h (d .kids)) refl)
     where
@@ -258,11 +280,13 @@ has-parent : (k : ℕ) (ts : Nodes) (i : Own) (ks : Nodes) (us : List Frame) →
 has-parent k ts i ks _ (at-root f z o) = (f, [], refl)
 has-parent k ts i ks _ (at-node f vs us a b) = (f, vs, refl)
 
+-- a property has a parent
 property-parent : (k : ℕ) (ts : Nodes) (s : Spot) → isProperty (sortOf s) ≡ true → Spotted k ts s → (f : Frame) × (vs : List Frame) × (s .ups ≡ f ∷ vs)
 property-parent k ts s n (the-root _ e _ _ _) = absurd (false≢true (sym (ap isProperty e) ∙ n))
 property-parent k ts s n (a-node _ _ q) = has-parent k ts (s .here .own) (s .kids) (s .ups) q
 
 module _ (d : State) (v : Value) (p : Placed (d .kids)) (doc : Document (d .kids)) (w : Showable v) where
+  -- the plan of set_value at a property that is found
   set-told : (h : Handle) (s : Spot) → named h (d .kids) ≡ Some s → (o : Handle) → valueIn (s .kids) ≡ Some o → (t : Spot) → t .here .place ≡ o .place → Sets-so d h v (valuePlan d v s (Some t))
   set-told h s e o m t y = cond-both (isProperty (sortOf s)) (Given _) (Refused NotHere) (Sets-so d h v)
       (λ z. (let f = property-parent (h .place) (d .kids) s z (spot-found (h .place) (d .kids) s (named-spot h (d .kids) s e .0)) in
@@ -275,6 +299,7 @@ module _ (d : State) (v : Value) (p : Placed (d .kids)) (doc : Document (d .kids
       (parts N, g .0 .alone, g .1, ap (λ k. parts (exchange (s .here .place) k N (d .kids))) y ∙ r .1, ap (λ k. comments (exchange (s .here .place) k N (d .kids))) y ∙ r .2)))))
       (λ z. tt)
 
+  -- the plan of set_value, accepted or refused
   set-value-told : (h : Handle) → Sets-so d h v (planned d (SetValue h v))
   set-value-told h = go (named h (d .kids)) refl
     where
@@ -290,10 +315,12 @@ module _ (d : State) (v : Value) (p : Placed (d .kids)) (doc : Document (d .kids
       go None e = tt
       go (Some s) e = on s e (valueIn (s .kids)) refl
 
+  -- the plan of set_root where the root has a value
   set-root-told : (o : Handle) (u : Supply) → valueIn (d .kids) ≡ Some o
       → (w : Parts Handle) × Alone w × (bare w ≡ spelled v) × (parts (rootPlan d v (Some o) .grow u) ≡ put w (parts (d .kids)) []) × (comments (rootPlan d v (Some o) .grow u) ≡ less (lostInside (layout (pieces (d .kids))) []) (comments (d .kids)))
   set-root-told o u e = (let g = shown-fresh _ _ v u w in let r = set-root-accounted (d .kids) o _ doc p e (g .0) in (_, g .0 .alone, g .1, r .1, r .2))
 
+-- all laws of the account
 pub account-laws : Account-laws
 account-laws = record {
   lost-by-path = lost-by-path;

@@ -15,6 +15,7 @@ take-front : (a b : List Comment) → take (length a) (a ++ b) ≡ a
 take-front [] b = refl
 take-front (x ∷ a) b = ap (λ y. x ∷ y) (take-front a b)
 
+-- what is behind the front of a list
 drop-front : (a b : List Comment) → drop (length a) (a ++ b) ≡ b
 drop-front [] b = refl
 drop-front (x ∷ a) b = drop-front a b
@@ -67,6 +68,7 @@ followed-all y (Some q) e = go (breaks y) (breaks q)
 abbrev pub Total : Rule → Type 0
 Total hit = (b : Bool) (kept line : List Comment) (ks r : Layout) → whole (hit b kept line ks r) ≡ (kept ++ line) ++ (notes ks ++ notes r)
 
+-- the rule of remove is such a rule
 pub remove-total : Total removeHere
 remove-total true kept line ks r =
     ap (λ x. (kept ++ line) ++ x) (append-assoc (notes ks) (followed r (afterComma r) .lost) (followed r (afterComma r) .behind) ∙ ap (λ x. notes ks ++ x) (followed-all r (afterComma r) refl))
@@ -75,6 +77,7 @@ remove-total false kept line ks r =
     ∙ ap (λ x. line ++ x) (append-assoc (notes ks) (followed r (afterComma r) .lost) (followed r (afterComma r) .behind) ∙ ap (λ x. notes ks ++ x) (followed-all r (afterComma r) refl)))
     ∙ sym (append-assoc kept line (notes ks ++ notes r))
 
+-- so is that of replace
 pub replace-total : Total replaceHere
 replace-total b kept line ks r = refl
 

@@ -30,10 +30,12 @@ record Laid (s : Sort) (ks : Nodes) (a : Pieces) : Type 0 where
   is : (b : Bool) → lay (piece s (pieces ks) a) b ≡ layAt (class s) label within-it b (lay a)
   said : class s ≡ value → notes within-it ≡ comments ks
 
+-- no children have no comments
 no-comments : (ks : Nodes) → IsEnd ks → [] ≡ comments ks
 no-comments end h = refl
 no-comments (node p i ks ts) h = absurd h
 
+-- a leaf in the layout
 leaf-laid : (x : Leaf) (ks : Nodes) (a : Pieces) → IsEnd ks → Laid (single x) ks a
 leaf-laid null ks a h = record { label = leafLabel null; within-it = stop false; is = λ b. refl; said = λ v. no-comments ks h }
 leaf-laid (boolean v) ks a h = record { label = leafLabel (boolean v); within-it = stop false; is = λ b. refl; said = λ v. no-comments ks h }
@@ -45,6 +47,7 @@ leaf-laid (whitespace t) ks a h = record { label = leafLabel null; within-it = s
 leaf-laid (newline k) ks a h = record { label = leafLabel null; within-it = stop false; is = λ b. refl; said = λ v. no-comments ks h }
 leaf-laid (comment n) ks a h = record { label = leafLabel null; within-it = stop false; is = λ b. refl; said = λ v. no-comments ks h }
 
+-- any node in the layout
 laid : (s : Sort) (ks : Nodes) (a : Pieces) → Holds s ks → Whole ks → Laid s ks a
 laid root ks a h w = absurd h
 laid (within b) ks a h w = record { label = pieceLabel b (pieces ks); within-it = lay (pieces ks) false; is = λ d. refl; said = λ v. sym (whole-comments ks false w) }
@@ -57,10 +60,12 @@ holder (within b) k ks h z = (b, refl)
 holder (single x) k end h z = absurd (omega arith)
 holder (single x) k (node p i us ts) h z = absurd (h .1)
 
+-- one of the siblings is there
 pub among-count : (h : Handle) (ts : Nodes) (n : ℕ) → Among h ts n → 0 < count (h .place) ts
 among-count h _ _ (first p i ks ts e v) = omega (arith, one-eq p (h .place) (ap (λ y. y .place) e))
 among-count h _ _ (later p i ks ts n e a) = omega (arith, among-count h ts n a)
 
+-- so are one below them, and its parent
 pub below-count : (c : ℕ) (h : Handle) (ts : Nodes) (n : ℕ) (q : List ℕ) → Below c h ts n q → (0 < count c ts) × (0 < count (h .place) ts)
 below-count c h _ _ _ (child p i ks ts j e v a) = (omega (arith, one-eq p c e), omega (arith, among-count h ks j a))
 below-count c h _ _ _ (deeper p i ks ts j q e z v b) = (let m = below-count c h ks j q b in let x = m .0 in let y = m .1 in (omega arith, omega arith))
@@ -71,6 +76,7 @@ pub record Walked (a : List Comment) (bs : Nodes) (kept line : List Comment) (b 
   pub all : kept ++ line ≡ a ++ notesBefore bs
   pub back : cond b (kept ++ line) kept ≡ a ++ notesBefore (backLine bs)
 
+-- before the first sibling
 walked-start : (a : List Comment) → Walked a end a [] false
 walked-start a = record { all = refl; back = sym (append-nil a) }
 
@@ -121,6 +127,7 @@ past hit ks ts n q R value l k kept line b s r =
     r ((kept ++ line) ++ notes k) [] false ∙ (ap (λ y. y ++ R) (append-nil ((kept ++ line) ++ notes k)) ∙ (append-assoc (kept ++ line) (notes k) R ∙ ap (λ y. (kept ++ line) ++ (y ++ R)) (s refl)))
 
 module _ (hit : Rule) (g : Local) (ans : Answers hit g) (h : Handle) where
+  -- among siblings, what stays is what the edited list has
   among-walk : (ts : Nodes) (n : ℕ) → Among h ts n → (a : List Comment) (bs : Nodes) (kept line : List Comment) (b : Bool) → Walked a bs kept line b → Whole ts
       → stays (walk hit (lay (pieces ts) b) kept line n []) ≡ a ++ comments (localFrom g (h .place) bs ts)
   among-walk _ _ (first p i ks ts e v) a bs kept line b w d =
@@ -146,6 +153,7 @@ module _ (hit : Rule) (g : Local) (ans : Answers hit g) (h : Handle) where
       ∙ (sym (append-assoc (s .before) (s .behind) t) ∙ (ap (λ y. y ++ t) r ∙ (append-assoc (kept ++ line) (comments us) t
       ∙ (ap (λ y. (kept ++ line) ++ (comments us ++ y)) (sym (whole-comments ts false w)) ∙ ap (λ y. (kept ++ line) ++ (remarksOf (class y) (comments us) ++ comments ts)) (sym e)))))
 
+  -- below siblings likewise
   below-walk : (c : ℕ) (ts : Nodes) (n : ℕ) (q : List ℕ) → Below c h ts n q → (kept line : List Comment) (b : Bool) → Whole ts
       → stays (walk hit (lay (pieces ts) b) kept line n q) ≡ (kept ++ line) ++ comments (edited c (local g (h .place)) ts)
   below-walk c _ _ _ (child p i ks ts j e v a) kept line b d =
@@ -163,6 +171,7 @@ module _ (hit : Rule) (g : Local) (ans : Answers hit g) (h : Handle) where
       ∙ (past hit ks ts n q (comments (edited c (local g (h .place)) ts)) (class (i .sort)) (m .label) (m .within-it) kept line b (m .said) (λ kept line b. below-walk c ts n q r kept line b (d .2))
       ∙ ap (λ y. (kept ++ line) ++ comments y) (sym (edited-rest c (local g (h .place)) p i ks ts (eqb-false p c e) z)))
 
+  -- and in the whole document
   lies-walk : (c : ℕ) (ts : Nodes) (n : ℕ) (q : List ℕ) → Lies c h ts n q → Whole ts → stays (walk hit (lay (pieces ts) false) [] [] n q) ≡ comments (under c (local g (h .place)) ts)
   lies-walk c ts _ _ (on-top n e a) w = among-walk ts n a [] end [] [] false (walked-start []) w
       ∙ ap comments (sym (cond-true (eqb c 0) (local g (h .place) ts) (edited c (local g (h .place)) ts) (eq-eqb c 0 e)))

@@ -39,6 +39,7 @@ changed-off c G (node p i ks ts) z = go (class (i .sort)) (changed-off c G ks (o
 module _ (h : Handle) (G f X : Parts Handle → Parts Handle)
     (by-place : (i : Handle) (l : Label) (ks ts : Parts Handle) → G (part i l ks ts) ≡ cond (eqb (i .place) (h .place)) (X ts) (part i l ks (G ts)))
     (by-path : (i : Handle) (l : Label) (ks ts : Parts Handle) → f (part i l ks ts) ≡ X ts) where
+  -- among siblings: at the place and at the ordinal
   among-change : (ts : Nodes) (n : ℕ) → Among h ts n → G (parts ts) ≡ change f (parts ts) n []
   among-change _ _ (first p i ks ts e v) =
       let l : Label = labelOf (i .sort) (pieces ks) in
@@ -56,6 +57,7 @@ module _ (h : Handle) (G f X : Parts Handle → Parts Handle)
           ∙ (cond-false (eqb p (h .place)) (X (parts ts)) (part (handle p i) (labelOf (i .sort) (pieces ks)) (parts ks) (G (parts ts))) e
           ∙ ap (part (handle p i) (labelOf (i .sort) (pieces ks)) (parts ks)) r)
 
+  -- below siblings: at the place and at the path
   below-change : (c : ℕ) (ts : Nodes) (n : ℕ) (q : List ℕ) → Below c h ts n q → changed c G (parts ts) ≡ change f (parts ts) n q
   below-change c _ _ _ (child p i ks ts j e v a) =
       let l : Label = labelOf (i .sort) (pieces ks) in
@@ -78,6 +80,7 @@ module _ (h : Handle) (G f X : Parts Handle → Parts Handle)
           cond-false (eqb p c) (part (handle p i) (labelOf (i .sort) (pieces ks)) (G (parts ks)) (parts ts)) (part (handle p i) (labelOf (i .sort) (pieces ks)) (changed c G (parts ks)) (changed c G (parts ts))) e
           ∙ (ap (λ y. part (handle p i) (labelOf (i .sort) (pieces ks)) y (changed c G (parts ts))) (changed-off c G ks z) ∙ ap (part (handle p i) (labelOf (i .sort) (pieces ks)) (parts ks)) r)
 
+  -- in the whole document
   pub lies-change : (c : ℕ) (ts : Nodes) (n : ℕ) (q : List ℕ) → Lies c h ts n q → changedUnder c G (parts ts) ≡ change f (parts ts) n q
   lies-change c ts _ _ (on-top n e a) = cond-true (eqb c 0) (G (parts ts)) (changed c G (parts ts)) (eq-eqb c 0 e) ∙ among-change ts n a
   lies-change c ts _ _ (inside n q e b) = cond-false (eqb c 0) (G (parts ts)) (changed c G (parts ts)) e ∙ below-change c ts n q b
