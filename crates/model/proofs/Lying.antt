@@ -132,10 +132,13 @@ spot-lies k ts s f us w d v u =
     go r z (beside e n a) = (n, [], on-top n (ap (λ y. y .place) (head-same f r us [] (sym u ∙ e)) ∙ z) a)
     go r z (lower g vs e n q b) =
         let m = below-count (g .place) (spotHandle s) ts n q b .0 in
-        let x : g .place ≡ f .place = ap (λ y. y .place) (head-same g f vs us (sym e ∙ u)) in
-        (n, q, inside n q (cond-both (eqb (f .place) 0) true false (λ y. eqb (f .place) 0 ≡ false)
-        (λ y. (let c : count (g .place) ts ≡ 0 = ap (λ t. count t ts) (x ∙ eqb-true (f .place) 0 y) ∙ d .rootless in absurd (omega arith))) (λ y. y))
-        (subst (λ y. Below y (spotHandle s) ts n q) x b))
+        let x : g .place ≡ f .place = ap (λ y. y .place) (head-same g f vs us (sym e ∙ u)) in (
+          n,
+          q,
+          inside n q (cond-both (eqb (f .place) 0) true false (λ y. eqb (f .place) 0 ≡ false)
+              (λ y. (let c : count (g .place) ts ≡ 0 = ap (λ t. count t ts) (x ∙ eqb-true (f .place) 0 y) ∙ d .rootless in absurd (omega arith))) (λ y. y))
+              (subst (λ y. Below y (spotHandle s) ts n q) x b),
+        )
 
 -- a handle that names a spot is the handle of it
 pub named-spot : (h : Handle) (ts : Nodes) (s : Spot) → named h ts ≡ Some s → (spotAt (h .place) ts ≡ Some s) × (s .here .own .number ≡ h .number)

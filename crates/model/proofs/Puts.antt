@@ -90,9 +90,12 @@ whole-below c j ks (node p o vs ts) (inr (inr a)) w = whole-below c j ks ts a (w
 -- the value of the whole after a value took another's place
 pub exchange-named : (c k : ℕ) (us ts : Nodes) → IsContainer c ts → IsElement k ts → Whole ts → parts (exchange c k us ts) ≡ changedUnder c (swapped k (parts us)) (parts ts)
 exchange-named c k us ts b v w = parts-under c (local (exchanged us) k) ts (swapped k (parts us))
-    (λ j ks a. (let x = b j ks a in let at-k : (i : Own) (vs : Nodes) → At k i vs ks → class (i .sort) ≡ value = λ i vs z. v i vs (at-inside c k j i ks vs ts a z) .0 in
-    (ap class (x .1), exchange-parts k us ks at-k, label-kept j (x .0) (pieces (local (exchanged us) k ks)) (pieces ks) (x .1)
-    (λ e. name-exchanged k us ks (subst (λ y. Fits (of y) ks) e (subst (λ y. Holds y ks) (x .1) (holds-at c j ks ts a w))) (whole-below c j ks ts a w) at-k))))
+    (λ j ks a. (let x = b j ks a in let at-k : (i : Own) (vs : Nodes) → At k i vs ks → class (i .sort) ≡ value = λ i vs z. v i vs (at-inside c k j i ks vs ts a z) .0 in (
+      ap class (x .1),
+      exchange-parts k us ks at-k,
+      label-kept j (x .0) (pieces (local (exchanged us) k ks)) (pieces ks) (x .1)
+          (λ e. name-exchanged k us ks (subst (λ y. Fits (of y) ks) e (subst (λ y. Holds y ks) (x .1) (holds-at c j ks ts a w))) (whole-below c j ks ts a w) at-k),
+    )))
     (λ e. exchange-parts k us ts (λ i vs z. v i vs z .0))
 
 -- THE VALUE OF A PROPERTY

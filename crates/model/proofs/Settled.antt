@@ -116,10 +116,11 @@ remove-accounted : (h : Handle) (ts : Nodes) (s : Spot) (f : Frame) (p : List �
     → (parts (remove (f .place) (s .here .place) ts) ≡ deleted (parts ts) p) × (comments (remove (f .place) (s .here .place) ts) ≡ less (lostByRemoval (layout (pieces ts)) p) (comments ts))
 remove-accounted h ts s f p x n =
     let m = facts h ts s f p x in
-    let l = found-lies h ts s f p x in
-    (ap (λ k. parts (remove (f .place) k ts)) (m .place-is)
-    ∙ (remove-value (f .place) (h .place) ts (m .no-property n) (item-of ts (x .placed) (h .place) (s .here .own) (s .kids) (m .stands) (x .is-value)) ∙ lost-by-path (f .place) h ts p l),
-    ap (λ k. comments (remove (f .place) k ts)) (m .place-is) ∙ remove-less (f .place) h ts p l (x .document .whole))
+    let l = found-lies h ts s f p x in (
+      ap (λ k. parts (remove (f .place) k ts)) (m .place-is)
+          ∙ (remove-value (f .place) (h .place) ts (m .no-property n) (item-of ts (x .placed) (h .place) (s .here .own) (s .kids) (m .stands) (x .is-value)) ∙ lost-by-path (f .place) h ts p l),
+      ap (λ k. comments (remove (f .place) k ts)) (m .place-is) ∙ remove-less (f .place) h ts p l (x .document .whole),
+    )
 
 -- REPLACE
 exchanged-so : (c : ℕ) (h : Handle) (ts : Nodes) (p : List ℕ) (us : Nodes) → Document ts → Fresh us → IsContainer c ts → IsElement (h .place) ts → Lies c h ts 0 p
@@ -169,7 +170,7 @@ set-value-accounted h ts s f p o us x n e u =
     let a : Among o (s .kids) 0 = value-among o (s .kids) (λ k. omega (arith, at-less k (h .place) (s .here .own) (s .kids) ts (m .stands), x .placed .once k)) e in
     let g = among-node (of property) o (s .kids) 0 a (t .taken) in
     let z : eqb (h .place) 0 ≡ false = cond-both (eqb (h .place) 0) true false (λ y. eqb (h .place) 0 ≡ false)
-        (λ y. (let c : count (h .place) ts ≡ 0 = ap (λ k. count k ts) (eqb-true (h .place) 0 y) ∙ x .placed .rootless in let d = at-count (h .place) (s .here .own) (s .kids) ts (m .stands) in absurd (omega arith))) (λ y. y) in
+    (λ y. (let c : count (h .place) ts ≡ 0 = ap (λ k. count k ts) (eqb-true (h .place) 0 y) ∙ x .placed .rootless in let d = at-count (h .place) (s .here .own) (s .kids) ts (m .stands) in absurd (omega arith))) (λ y. y) in
     let l : Lies (h .place) o ts 0 (p ++ 0 ∷ []) = lies-down h o (s .here .own) (s .kids) 0 a (f .place) ts 0 p z (found-lies h ts s f p x) (x .placed .once (h .place)) (m .stands) in
     let r = subst (λ k. (parts (exchange k (o .place) us ts) ≡ put (parts us) (parts ts) (p ++ 0 ∷ [])) × (comments (exchange k (o .place) us ts) ≡ less (lostInside (layout (pieces ts)) (p ++ 0 ∷ [])) (comments ts))) (sym (m .place-is))
     (exchanged-so (h .place) o ts (p ++ 0 ∷ []) us (x .document) u (container-of ts (x .placed) (h .place) (s .here .own) (s .kids) property (m .stands) b)
@@ -258,9 +259,12 @@ module _ (d : State) (h : Handle) (p : Placed (d .kids)) (doc : Document (d .kid
   replace-told v w s e [] q = tt
   replace-told v w s e (f ∷ us) q = cond-both (isValue (class (sortOf s)) && not (isProperty (sortOf s))) (Given _) (Refused NotHere) (Replaces-so d h v)
       (λ z. (let y = and-parts (isValue (class (sortOf s))) (not (isProperty (sortOf s))) z in
-      let x = named-has-path h (d .kids) s f us doc p e q (value-is (class (sortOf s)) (y .0)) in
-      (x .0, x .1 .has-path, λ u. (let g = shown-fresh _ _ v u w in
-      let r = replace-accounted h (d .kids) s f (x .0) _ (x .1) (not-true (isProperty (sortOf s)) (y .1)) (g .0) in (_, g .0 .alone, g .1, r .0, r .1)))))
+      let x = named-has-path h (d .kids) s f us doc p e q (value-is (class (sortOf s)) (y .0)) in (
+        x .0,
+        x .1 .has-path,
+        λ u. (let g = shown-fresh _ _ v u w in
+            let r = replace-accounted h (d .kids) s f (x .0) _ (x .1) (not-true (isProperty (sortOf s)) (y .1)) (g .0) in (_, g .0 .alone, g .1, r .0, r .1)),
+      )))
       (λ z. tt)
 
   -- the plans of remove and replace, accepted or refused
@@ -290,13 +294,16 @@ module _ (d : State) (v : Value) (p : Placed (d .kids)) (doc : Document (d .kids
   set-told : (h : Handle) (s : Spot) → named h (d .kids) ≡ Some s → (o : Handle) → valueIn (s .kids) ≡ Some o → (t : Spot) → t .here .place ≡ o .place → Sets-so d h v (valuePlan d v s (Some t))
   set-told h s e o m t y = cond-both (isProperty (sortOf s)) (Given _) (Refused NotHere) (Sets-so d h v)
       (λ z. (let f = property-parent (h .place) (d .kids) s z (spot-found (h .place) (d .kids) s (named-spot h (d .kids) s e .0)) in
-      let x = named-has-path h (d .kids) s (f .0) (f .1) doc p e (f .2) (ap class (property-box (sortOf s) z)) in
-      (x .0, x .1 .has-path, λ u. (let st : Style = styled (breakOf (newlineKind (d .kids))) (usesTrailingCommas (sortOf t) (t .kids)) (indents s (d .kids)) in
-      let i : List ℕ = indents s (d .kids) .current in
-      let N : Nodes = sown u (written st i v) in
-      let g = shown-fresh st i v u w in
-      let r = set-value-accounted h (d .kids) s (f .0) (x .0) o N (x .1) z m (g .0) in
-      (parts N, g .0 .alone, g .1, ap (λ k. parts (exchange (s .here .place) k N (d .kids))) y ∙ r .1, ap (λ k. comments (exchange (s .here .place) k N (d .kids))) y ∙ r .2)))))
+      let x = named-has-path h (d .kids) s (f .0) (f .1) doc p e (f .2) (ap class (property-box (sortOf s) z)) in (
+        x .0,
+        x .1 .has-path,
+        λ u. (let st : Style = styled (breakOf (newlineKind (d .kids))) (usesTrailingCommas (sortOf t) (t .kids)) (indents s (d .kids)) in
+            let i : List ℕ = indents s (d .kids) .current in
+            let N : Nodes = sown u (written st i v) in
+            let g = shown-fresh st i v u w in
+            let r = set-value-accounted h (d .kids) s (f .0) (x .0) o N (x .1) z m (g .0) in
+            (parts N, g .0 .alone, g .1, ap (λ k. parts (exchange (s .here .place) k N (d .kids))) y ∙ r .1, ap (λ k. comments (exchange (s .here .place) k N (d .kids))) y ∙ r .2)),
+      )))
       (λ z. tt)
 
   -- the plan of set_value, accepted or refused
