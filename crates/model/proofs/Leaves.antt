@@ -136,7 +136,7 @@ named-spot h ks s = go (spotAt (h .place) ks)
     go (Some x) = cond-both (eqb (x .here .own .number) (h .number)) (Some x) None (λ y. y ≡ Some s → Some x ≡ Some s) (λ z e. e) (λ z e. absurd (some-none s (sym e)))
 
 -- an accepted edit is as it was planned
-accepted-planned : (d : State) (w : Work) (e : Edit Value) (x : Plan) → accepted d w e ≡ Given x → planned d e ≡ Given x
+pub accepted-planned : (d : State) (w : Work) (e : Edit Value) (x : Plan) → accepted d w e ≡ Given x → planned d e ≡ Given x
 accepted-planned d w e x a = go (planned d e) (refuse (badMemory d w e) BadMemory (andThen (planned d e) (judged d)) a)
   where
     refuse : (b : Bool) (r : Refusal) (o : Outcome Plan) → unless b r o ≡ Given x → o ≡ Given x

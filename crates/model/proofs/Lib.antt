@@ -37,3 +37,6 @@ pub mod Puts
 pub mod Settled
 pub mod Rooted
 pub mod Lone
+pub mod Whereabouts
+pub mod Agrees
+pub mod Promised

@@ -32,7 +32,7 @@ some-same a b e = cc
 -- THE WAY TO A HANDLE
 
 -- a handle is the same as itself
-same-refl : (h : Handle) → same h h ≡ true
+pub same-refl : (h : Handle) → same h h ≡ true
 same-refl h = ap (λ b. b && eqb (h .number) (h .number)) (eq-eqb (h .place) (h .place) refl) ∙ eq-eqb (h .number) (h .number) refl
 
 -- what a part answers
@@ -40,7 +40,7 @@ abbrev answer : Bool → Option Way → Option Way → Option Way
 answer b x y = cond b (Some (0, [])) (orElse (level x) (behind y))
 
 -- no way leads to a place that is not there
-way-off : (h : Handle) (ts : Nodes) → count (h .place) ts ≡ 0 → wayTo h (parts ts) ≡ None
+pub way-off : (h : Handle) (ts : Nodes) → count (h .place) ts ≡ 0 → wayTo h (parts ts) ≡ None
 way-off h end z = refl
 way-off h (node p i ks ts) z = go (class (i .sort)) (way-off h ks (omega arith)) (way-off h ts (omega arith))
   where
@@ -52,7 +52,7 @@ way-off h (node p i ks ts) z = go (class (i .sort)) (way-off h ks (omega arith))
         ∙ (ap (λ y. orElse (level y) (behind (wayTo h (parts ts)))) a ∙ ap behind b)
 
 -- past a sibling
-way-past : (h : Handle) (p : ℕ) (i : Own) (ks ts : Nodes) (n : ℕ) (q : List ℕ) → count (h .place) (node p i ks ts) ≤ 1 → 0 < count (h .place) ts → wayTo h (parts ts) ≡ Some (n, q) → (c : Class)
+pub way-past : (h : Handle) (p : ℕ) (i : Own) (ks ts : Nodes) (n : ℕ) (q : List ℕ) → count (h .place) (node p i ks ts) ≤ 1 → 0 < count (h .place) ts → wayTo h (parts ts) ≡ Some (n, q) → (c : Class)
     → wayTo h (partsAt c (handle p i) (labelOf (i .sort) (pieces ks)) (parts ks) (parts ts)) ≡ Some (counted c n, q)
 way-past h p i ks ts n q o z e (gap g) = e
 way-past h p i ks ts n q o z e (mark m) = e
@@ -61,7 +61,7 @@ way-past h p i ks ts n q o z e value =
     ∙ (ap (λ y. orElse (level y) (behind (wayTo h (parts ts)))) (way-off h ks (omega arith)) ∙ ap behind e)
 
 -- into a container
-way-down : (h : Handle) (p : ℕ) (i : Own) (ks ts : Nodes) (n : ℕ) (q : List ℕ) → class (i .sort) ≡ value → count (h .place) (node p i ks ts) ≤ 1 → 0 < count (h .place) ks → wayTo h (parts ks) ≡ Some (n, q)
+pub way-down : (h : Handle) (p : ℕ) (i : Own) (ks ts : Nodes) (n : ℕ) (q : List ℕ) → class (i .sort) ≡ value → count (h .place) (node p i ks ts) ≤ 1 → 0 < count (h .place) ks → wayTo h (parts ks) ≡ Some (n, q)
     → wayTo h (parts (node p i ks ts)) ≡ Some (0, n ∷ q)
 way-down h p i ks ts n q v o z e =
     ap (wayTo h) (as-value p i ks ts v)

@@ -190,7 +190,7 @@ found-at k us bs (node p i ks ts) s =
     (λ y e. inr (inr (found-at k us (node p i ks bs) ts s e))))
 
 -- a node that stands at a place of its own is found there
-at-found : (k : ℕ) (us : List Frame) (bs ts : Nodes) (i : Own) (ks : Nodes) → count k ts ≤ 1 → At k i ks ts → (s : Spot) × (spotIn k us bs ts ≡ Some s) × (s .here .own ≡ i)
+pub at-found : (k : ℕ) (us : List Frame) (bs ts : Nodes) (i : Own) (ks : Nodes) → count k ts ≤ 1 → At k i ks ts → (s : Spot) × (spotIn k us bs ts ≡ Some s) × (s .here .own ≡ i)
 at-found k us bs end i ks o a = absurd a
 at-found k us bs (node p j ls ts) i ks o (inl (e, q, z)) =
     let f : Frame = record { before = bs; place = p; own = j; after = ts } in
@@ -327,13 +327,13 @@ kind-gone false None e = refl
 kind-gone false (Some s) e = (let x : _≡_ {A = ℕ} 0 1 = cc in absurd (omega arith))
 
 -- and the other way round, once a document is loaded
-gone-kind : (b : Bool) (o : Option Spot) → b ≡ false → ((s : Sort) → then o (λ x. Some (sortOf x)) ≡ Some s → ⊥) → unless b BadMemory (andThen (present Gone o) (λ s. Given (kind (sortOf s)))) ≡ Refused Gone
+pub gone-kind : (b : Bool) (o : Option Spot) → b ≡ false → ((s : Sort) → then o (λ x. Some (sortOf x)) ≡ Some s → ⊥) → unless b BadMemory (andThen (present Gone o) (λ s. Given (kind (sortOf s)))) ≡ Refused Gone
 gone-kind true o e n = absurd (true≢false e)
 gone-kind false None e n = refl
 gone-kind false (Some s) e n = absurd (n (sortOf s) refl)
 
 -- a source's value may be shown, so an edit that writes it may
-sourced-showing : {S : Type 0} (says : S → Value) → ((s : S) → Sourced (says s)) → (e : Edit S) → Showing (mapEdit says e)
+pub sourced-showing : {S : Type 0} (says : S → Value) → ((s : S) → Sourced (says s)) → (e : Edit S) → Showing (mapEdit says e)
 sourced-showing says k (Remove h) = tt
 sourced-showing says k (Replace h v) = (k v .one, k v .shaped, k v .shows)
 sourced-showing says k (SetValue h v) = (k v .one, k v .shaped, k v .shows)

@@ -280,7 +280,7 @@ module _ (d : State) (h : Handle) (p : Placed (d .kids)) (doc : Document (d .kid
       on v w (Some s) e = replace-told v w s e (s .ups) refl
 
 -- what is no root has a parent
-has-parent : (k : ℕ) (ts : Nodes) (i : Own) (ks : Nodes) (us : List Frame) → Parent k ts i ks us → (f : Frame) × (vs : List Frame) × (us ≡ f ∷ vs)
+pub has-parent : (k : ℕ) (ts : Nodes) (i : Own) (ks : Nodes) (us : List Frame) → Parent k ts i ks us → (f : Frame) × (vs : List Frame) × (us ≡ f ∷ vs)
 has-parent k ts i ks _ (at-root f z o) = (f, [], refl)
 has-parent k ts i ks _ (at-node f vs us a b) = (f, vs, refl)
 

@@ -159,13 +159,13 @@ module _ (d : State) (p : Placed (d .kids)) (doc : Document (d .kids)) where
   sort-box (within property) ks h e = absurd (false≢true e)
   sort-box (single x) ks h e = absurd (false≢true e)
 
-  spot-bracketed : (s : Spot) (k : ℕ) → Spotted k (d .kids) s → isRoot (sortOf s) || bracketed (sortOf s) ≡ true → IsBracketed (s .here .place) (d .kids)
+  pub spot-bracketed : (s : Spot) (k : ℕ) → Spotted k (d .kids) s → isRoot (sortOf s) || bracketed (sortOf s) ≡ true → IsBracketed (s .here .place) (d .kids)
   spot-bracketed s k (the-root _ _ e _ _) z = subst (λ y. IsBracketed y (d .kids)) (sym e) (root-bracketed (d .kids) p)
   spot-bracketed s k (a-node h a q) z =
       let x = sort-box (sortOf s) (s .kids) (holds-at k (s .here .own) (s .kids) (d .kids) a (doc .whole)) z in
       subst (λ y. IsBracketed y (d .kids)) (sym h) (bracketed-of (d .kids) p k (s .here .own) (s .kids) (x .0) a (x .1) (x .2))
 
-  lines-bracketed : (s : Spot) (k : ℕ) → Spotted k (d .kids) s → s .here .place ≡ 0 → lined (sortOf s) (s .kids) ≡ false
+  pub lines-bracketed : (s : Spot) (k : ℕ) → Spotted k (d .kids) s → s .here .place ≡ 0 → lined (sortOf s) (s .kids) ≡ false
   lines-bracketed s k (the-root _ o _ _ _) z = ap (λ y. lined y (s .kids)) o
   lines-bracketed s k (a-node h a q) z =
       let n = at-count k (s .here .own) (s .kids) (d .kids) a in
@@ -184,7 +184,7 @@ module _ (d : State) (p : Placed (d .kids)) (doc : Document (d .kids)) where
       (λ z u. lines-document (s .here .place) (lined (sortOf s) (s .kids)) u (d .kids) (λ j ks a. (let x = spot-bracketed s k q z j ks a in (x .0, x .1, bracketed-commas (lined (sortOf s) (s .kids)) (x .0) (x .2)))) (lines-bracketed s k q) doc) (λ z. tt)
 
   -- ENSURE_MULTILINE
-  bracketed-or : (s : Sort) → bracketed s ≡ true → isRoot s || bracketed s ≡ true
+  pub bracketed-or : (s : Sort) → bracketed s ≡ true → isRoot s || bracketed s ≡ true
   bracketed-or root e = refl
   bracketed-or (within b) e = e
   bracketed-or (single x) e = e

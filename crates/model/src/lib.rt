@@ -8,6 +8,7 @@ ghost use Rattle.model.specs.Rows.{Worked};
 pub mod accounts;
 pub mod handles;
 pub mod laws;
+pub mod promises;
 
 /// The worked examples come out as they should: each text, loaded and edited, prints the bytes beside it.
 pub fn worked_examples() -> u8
