@@ -72,8 +72,8 @@ remove-value c k ts b v = parts-under c (local removal k) ts (lost k)
     (λ e. remove-parts k ts v)
 
 -- REPLACE, SET_VALUE, SET_ROOT
-pub exchange-document : (c k : ℕ) (s : Supply) (a : Pieces) (ts : Nodes) → Stands a → IsContainer c ts → IsElement k ts → Document ts → Document (exchange c k (sown s a) ts)
-exchange-document c k s a ts g b v d = document-under c (local (exchanged (sown s a)) k) ts
+pub exchange-kept : (c k : ℕ) (s : Supply) (a : Pieces) (ts : Nodes) → Stands a → IsContainer c ts → IsElement k ts → Document ts → Document (exchange c k (sown s a) ts)
+exchange-kept c k s a ts g b v d = document-under c (local (exchanged (sown s a)) k) ts
     (λ j ks z. (let x = b j ks z in (x .0, x .1, λ f w. exchange-fits (of (x .0)) k s a ks g (λ i us y. v i us (at-inside c k j i ks us ts z y)) f w)))
     (λ e f w. exchange-fits top k s a ts g v f w) d
 

@@ -26,7 +26,7 @@ use Rattle.model.proofs.Says.{written-says, written-quiet, exchange-comments}
 use Rattle.model.proofs.Steps.{step-document}
 use Rattle.model.proofs.Lines.{removal-comments}
 use Rattle.model.proofs.Fewer.{remove-placed, never-placed}
-use Rattle.model.proofs.Kept.{remove-document, remove-value, never-document, never-comments, never-value, lines-document, lines-comments, lines-value, multiline-document, multiline-comments, multiline-value, exchange-document, root-document}
+use Rattle.model.proofs.Kept.{remove-document, remove-value, never-document, never-comments, never-value, lines-document, lines-comments, lines-value, multiline-document, multiline-comments, multiline-value, exchange-kept, root-document}
 
 writable-stands : (st : Style) (t : List ℕ) (v : Value) → Writable st t v → Stands (written st t v)
 writable-stands st t v w = written-stands st t v (w .step-blank) (w .indent-blank) (w .one) (w .shaped) (w .shows)
@@ -69,7 +69,7 @@ stand = record {
   if-multiline-keeps = λ c b s ts h z d. (lines-document c b s ts (λ j ks a. (let x = h j ks a in (x .0, x .1, bracketed-commas b (x .0) (x .2)))) z d, lines-comments c b s ts, lines-value c b s ts h d);
   multiline-keeps = λ c l s ts h b d. (multiline-document c l s ts h b d, multiline-comments c l s ts h, multiline-value c l s ts h b);
   written-says = λ st t v s w. (written-says st t v s (w .shaped), written-quiet st t v s);
-  exchange-keeps = λ c k s st t v ts w b e d. exchange-document c k s (written st t v) ts (writable-stands st t v w) b e d;
+  exchange-keeps = λ c k s st t v ts w b e d. exchange-kept c k s (written st t v) ts (writable-stands st t v w) b e d;
   exchange-puts = λ k us ks v. (exchange-parts k us ks v, exchange-comments k us ks v);
   root-keeps = λ n s st t v ts w h d. root-document n s (written st t v) ts (writable-stands st t v w) h d;
   loaded-placed = placed;

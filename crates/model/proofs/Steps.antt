@@ -27,7 +27,7 @@ use Rattle.model.specs.Fits.{Owner, top, of, Role, title, element, sign, role,
 use Rattle.model.specs.Changes.{At, Each, Trivial, Placed, IsBracketed, IsContainer, IsItem, IsElement, Blanked, Showable, Showing}
 use Rattle.model.proofs.Commas.{is-value, Commaed, lined-commas}
 use Rattle.model.proofs.Edited.{at-count, at-once}
-use Rattle.model.proofs.Kept.{at-inside, whole-at, remove-document, exchange-document, root-document, never-document, lines-document, multiline-document}
+use Rattle.model.proofs.Kept.{at-inside, whole-at, remove-document, exchange-kept, root-document, never-document, lines-document, multiline-document}
 use Rattle.model.proofs.Loaded.{Stands}
 use Rattle.model.proofs.Removes.{some-none}
 use Rattle.model.proofs.Writes.{written-stands, all-append}
@@ -143,7 +143,7 @@ module _ (d : State) (p : Placed (d .kids)) (doc : Document (d .kids)) where
       let c = is-value (class (sortOf s)) (y .0) in
       let m = subst Framed e (r .ups-held) in
       let b = indents-blank (parentSpot s f us) (d .kids) (record { before-held = m .0; ups-held = m .1 }) (doc .whole) in
-      exchange-document (f .place) (s .here .place) u _ (d .kids) (stands _ _ (indents (parentSpot s f us) (d .kids)) v b w) (node-container k (s .here .own) (s .kids) f us q)
+      exchange-kept (f .place) (s .here .place) u _ (d .kids) (stands _ _ (indents (parentSpot s f us) (d .kids)) v b w) (node-container k (s .here .own) (s .kids) f us q)
       (subst (λ x. IsElement x (d .kids)) (sym h) (element-of (d .kids) p k (s .here .own) (s .kids) a c (sort-element (sortOf s) c (not-true (isProperty (sortOf s)) (y .1))))) doc))
       (λ z. tt)
 
@@ -223,7 +223,7 @@ module _ (d : State) (p : Placed (d .kids)) (doc : Document (d .kids)) where
       let y = value-found (of property) (s .kids) h refl (f .taken) m in
       let b = at-inside k (h .place) (s .here .own) (y .0) (s .kids) (y .1) (d .kids) a (y .2) in
       let E : IsElement (h .place) (d .kids) = element-of (d .kids) p (h .place) (y .0) (y .1) b (y .3) (y .4) in
-      exchange-document (s .here .place) (o .here .place) u _ (d .kids) (stands _ _ (indents s (d .kids)) v (indents-blank s (d .kids) r (doc .whole)) w)
+      exchange-kept (s .here .place) (o .here .place) u _ (d .kids) (stands _ _ (indents s (d .kids)) v (indents-blank s (d .kids) r (doc .whole)) w)
       (subst (λ y. IsContainer y (d .kids)) (sym e) (container-of (d .kids) p k (s .here .own) (s .kids) property a x))
       (subst (λ y. IsElement y (d .kids)) (sym (o-place (spot-found (h .place) (d .kids) o n))) E) doc
     where
@@ -246,7 +246,7 @@ module _ (d : State) (p : Placed (d .kids)) (doc : Document (d .kids)) where
   root-grows v w None e u = root-document _ u _ (d .kids) (stands _ _ rootIndents v root-blank w) (none-trivial (d .kids) (doc .fits .taken) e) doc
   root-grows v w (Some h) e u =
       let y = value-found top (d .kids) h refl (doc .fits .taken) e in
-      exchange-document 0 (h .place) u _ (d .kids) (stands _ _ rootIndents v root-blank w) (root-container (d .kids) p)
+      exchange-kept 0 (h .place) u _ (d .kids) (stands _ _ rootIndents v root-blank w) (root-container (d .kids) p)
       (element-of (d .kids) p (h .place) (y .0) (y .1) (y .2) (y .3) (y .4)) doc
 
   plan-grows : (e : Edit Value) → Showing e → Grows (planned d e)
