@@ -94,6 +94,9 @@ surprises =
     ∷ case (codes "[1, 2,]") (turn (remove (1 ∷ [])) (codes "[1,]") ∷ [])
     ∷ case (codes "[1 // a\n, // b\n 2]") (turn (remove (0 ∷ [])) (codes "[ // b\n 2]") ∷ [])
     ∷ case (codes "// c\n  ") (turn (set-root (codes "null")) (codes "// c\n  null\n") ∷ [])
+    ∷ case (codes "[{\n}]") (turn (set-trailing-commas top IfMultiline) (codes "[{\n}]") ∷ [])
+    ∷ case (codes "[1,]") (turn (set-trailing-commas top IfMultiline) (codes "[1,]") ∷ [])
+    ∷ case (codes "1\r\n") (turn (set-root (codes "[[1]]")) (codes "[\r\n  [1]\r\n]\r\n") ∷ [])
     ∷ []
 
 -- each of them prints what the original prints
