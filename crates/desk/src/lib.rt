@@ -1,4 +1,5 @@
 //! What the program does with its words.
+#![tactic(auto)]
 
 pub mod report;
 pub mod sample;

@@ -1,10 +1,10 @@
 //! What the program says of a file.
 
-ghost use Rattle.check.specs.Checked.{checked};
+ghost use Rattle.checking.specs.Checked.{checked};
 ghost use Rattle.std.specs.Prelude.{◌≡◌, is_ok, IfOk};
 
-use check::check_text;
-use check::extent::Extent;
+use checking::check_text;
+use checking::extent::Extent;
 use refusal::Refusal;
 use spot::locate;
 use std::io;

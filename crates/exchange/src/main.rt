@@ -1,4 +1,5 @@
 //! The exchange's program for house files.
+#![tactic(auto)]
 
 use std::io;
 

@@ -1,4 +1,5 @@
 //! The program on files: what `exchange check FILE..` does, run on the files in data/.
+#![tactic(auto)]
 
 use std::io;
 

@@ -1,12 +1,12 @@
 -- Block comments: the laws of the parser that goes through the first star and slash. Assumes nothing.
-use Rattle.std.proofs.Common.{◌≡◌, ℕ, ◌<◌, ◌≤◌, Bool, true, false, cond, ◌&&◌, ◌||◌, eqb, leb, ◌⊎◌, List, [], ◌∷◌, ◌++◌, sym, refl, ap, ◌∙◌, subst, inl, inr, true≢false, append_assoc, append-nil, arith}
-use mathlib.Core.List.{nil≢cons, cons≢nil, head-eq_of_cons-eq, tail-eq_of_cons-eq}
+use Rattle.std.proofs.Common.{◌≡◌, ℕ, ◌≤◌, Bool, true, false, cond, ◌&&◌, eqb, leb, ◌⊎◌, List, [], ◌∷◌, ◌++◌, sym, refl, ap, ◌∙◌, subst, inl, inr, true≢false, append_assoc, arith}
+use mathlib.Core.List.{nil≢cons, head-eq_of_cons-eq, tail-eq_of_cons-eq}
 use mathlib.Core.Bool.{false≢true}
-use Rattle.std.proofs.lemmas.Bool.{eqb-true, eqb-false, eq-eqb, and_parts, or_cases, leb-true, leb-false, cases_lt}
-use Rattle.grammar.specs.Parse.{Out, ok, bad, deep, Res, res, map_o, map_r, Lang, Parser, Class, within, starts, Free, one_l, one_p, eps_l, eps_p, seq_l, seq_p, bind, alt_l, alt_p, pick, map_p, iterate, iter_l, iter_p}
+use Rattle.std.proofs.lemmas.Bool.{eqb-true, eqb-false, eq-eqb, and_parts, or_cases, leb-true, cases_lt}
+use Rattle.grammar.specs.Parse.{ok, bad, deep, Res, res, map_r, Lang, Parser, Class, within, Free, one_l, one_p, eps_l, eps_p, seq_l, seq_p, bind, alt_l, alt_p, pick, iterate, iter_l, iter_p}
 use Rattle.grammar.specs.Classes.{only, Ascii, InBlock, MultiFirst}
 use Rattle.grammar.specs.Grammar.{All, Multi, two, three_E0, three_E1, three_ED, three_EE, four_F0, four_F1, four_F4, Char, one, several, Many, none, next, Shut}
-use Rattle.grammar.specs.Reader.{concats, loop_b, char_p, block_turn, block_turn_p, block_p}
+use Rattle.grammar.specs.Reader.{concats, char_p, block_turn, block_turn_p, block_p}
 use Rattle.grammar.proofs.Laws.{Laws, Says, Means, Again, apart, apart_ok, covers_ok, free_left, free_right, free_none, free_front, one_laws, eps_laws, seq_laws, alt_laws, alt_null, alt_ext, seq_null, seq_ext, conv_laws, iter_laws, in_left}
 use Rattle.grammar.proofs.Bytes.{Of, ByteLaws, is_only}
 use Rattle.grammar.proofs.Chars.{char_laws}

@@ -1,12 +1,11 @@
 -- The laws of parsers whose result is what they read. Assumes nothing.
-use Rattle.std.proofs.Common.{◌≡◌, ℕ, Bool, true, false, cond, ◌&&◌, leb, ◌⊎◌, List, [], ◌∷◌, ◌++◌, sym, refl, ap, ◌∙◌, subst, inl, inr, append_assoc, append-nil, arith}
-use mathlib.Core.List.{nil≢cons, cons≢nil, head-eq_of_cons-eq}
+use Rattle.std.proofs.Common.{◌≡◌, ℕ, Bool, true, false, cond, ◌&&◌, leb, ◌⊎◌, List, [], ◌∷◌, ◌++◌, sym, refl, ap, ◌∙◌, subst, inl, inr, append-nil, arith}
 use mathlib.Core.Bool.{false≢true}
 use Rattle.std.proofs.lemmas.Bool.{and_parts, leb-true, or_cases}
-use Rattle.grammar.specs.Parse.{Out, ok, bad, deep, Res, res, map_o, map_r, Lang, Parser, Class, within, Free, one_l, one_p, eps_l, eps_p, seq_l, seq_p, alt_l, alt_p, map_p, iterate, iter_l, iter_p}
+use Rattle.grammar.specs.Parse.{Out, ok, bad, deep, Res, res, map_o, map_r, Lang, Parser, Class, within, Free, one_l, one_p, eps_l, eps_p, seq_l, seq_p, alt_l, alt_p, iterate, iter_l, iter_p}
 use Rattle.grammar.specs.Classes.{only}
 use Rattle.grammar.specs.Grammar.{All, Many, none, next}
-use Rattle.grammar.specs.Reader.{either, or_p, byte_p, empty_p, cat_p, word_p, run_p, concats, loop_b, many_p}
+use Rattle.grammar.specs.Reader.{either, or_p, byte_p, empty_p, cat_p, word_p, run_p, concats, many_p}
 use Rattle.grammar.proofs.Laws.{Laws, Says, Means, Again, apart, free_left, free_right, free_none, one_laws, eps_laws, map_laws, say_laws, wide_laws, conv_laws, seq_laws, alt_laws, iter_laws, Greedy}
 
 -- the bytes are themselves the result

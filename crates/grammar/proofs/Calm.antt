@@ -1,10 +1,9 @@
 -- Parsers that never nest too deep, and how much every parser leaves. Assumes nothing.
-use Rattle.std.proofs.Common.{◌≡◌, ℕ, zero, suc, ◌+◌, ◌<◌, ◌≤◌, Bool, true, false, cond, ◌⊎◌, List, [], ◌∷◌, ◌++◌, length, sym, refl, ap, ◌∙◌, subst, inl, inr, arith, length-append}
-use mathlib.Core.Bool.{false≢true}
-use Rattle.grammar.specs.Parse.{Out, ok, bad, deep, Res, res, map_o, map_r, Lang, Parser, Class, within, starts, one_p, eps_p, bind, seq_p, pick, alt_p, map_p, onto, turn, loop, iter_p}
-use Rattle.grammar.specs.Classes.{only, Ascii, Tail, MultiFirst, Digit, Digit1To9, Exponent, Signs, Hex, Escaped, Plain, Blank, LineEnd, InLine, InBlock, Gap}
-use Rattle.grammar.specs.Pieces.{Leaf, null, boolean, token, newline, whitespace, string, number, Token, Pieces, token_byte, line_feed}
-use Rattle.grammar.specs.Reader.{either, or_p, byte_p, empty_p, cat_p, word_p, run_p, concats, many_p, tail_p, two_p, three_p, four_p, multi_p, char_p, chars_p, minus_p, digits_p, int_p, frac_p, power_p, exp_p, number_p, hex_p, unicode_p, escape_p, string_char_p, StringFirst, string_p, block_turn, block_turn_p, block_p, nothing_p, then_p, ahead, after_p, joins, only_leaf, token_p, space_p, returned, return_p, newline_p, line_end_p, comment_of, comment_p, plain_p, piece_p, unit_p, trivia_p, string_leaf_p, number_leaf_p, literal_p, null_p, true_p, false_p, scalar_p}
+use Rattle.std.proofs.Common.{◌≡◌, ℕ, zero, suc, ◌<◌, ◌≤◌, Bool, true, false, cond, ◌⊎◌, List, [], ◌∷◌, ◌++◌, length, refl, ap, ◌∙◌, subst, inl, inr, arith, length-append}
+use Rattle.grammar.specs.Parse.{ok, bad, deep, Res, res, map_r, Lang, Parser, Class, within, starts, one_p, eps_p, bind, seq_p, pick, alt_p, map_p, onto, turn, loop, iter_p}
+use Rattle.grammar.specs.Classes.{only, Tail, MultiFirst, Digit, Digit1To9, Exponent, Signs, Hex, Escaped, Plain, Blank, LineEnd, InLine, InBlock, Gap}
+use Rattle.grammar.specs.Pieces.{Leaf, null, boolean, token, newline, whitespace, string, number, Token, token_byte, line_feed}
+use Rattle.grammar.specs.Reader.{either, or_p, byte_p, empty_p, cat_p, word_p, run_p, concats, many_p, tail_p, two_p, three_p, four_p, multi_p, char_p, chars_p, minus_p, digits_p, int_p, frac_p, power_p, exp_p, number_p, hex_p, unicode_p, escape_p, string_char_p, StringFirst, string_p, block_turn, block_turn_p, block_p, nothing_p, joins, only_leaf, token_p, space_p, returned, return_p, newline_p, line_end_p, comment_of, comment_p, plain_p, piece_p, unit_p, trivia_p, string_leaf_p, number_leaf_p, literal_p, null_p, true_p, false_p, scalar_p}
 use Rattle.grammar.proofs.Laws.{Laws, Means, shorter}
 use Rattle.grammar.proofs.Bytes.{ByteLaws, unit_laws as many-unit, TurnL as ManyL, unit_null_lem, unit_ext_lem}
 use Rattle.grammar.specs.Grammar.{Char, StringChar}

@@ -1,11 +1,11 @@
 -- UTF-8 characters, numbers and strings: the laws of their parsers. Assumes nothing.
-use Rattle.std.proofs.Common.{◌≡◌, ℕ, Bool, true, false, cond, ◌⊎◌, List, [], ◌∷◌, ◌++◌, sym, refl, ap, ◌∙◌, subst, inl, inr, append_assoc, append-nil}
-use Rattle.grammar.specs.Parse.{Lang, Parser, Class, within, Free}
-use Rattle.grammar.specs.Classes.{only, Ascii, Tail, MultiFirst, Digit, Digit1To9, Exponent, Signs, Hex, Escaped, Plain}
+use Rattle.std.proofs.Common.{◌≡◌, ℕ, true, false, List, [], ◌∷◌, ◌++◌, sym, refl, ap, ◌∙◌, subst, inl, inr}
+use Rattle.grammar.specs.Parse.{Parser, Class, within}
+use Rattle.grammar.specs.Classes.{only, Tail, MultiFirst, Digit, Digit1To9, Exponent, Signs, Hex, Escaped, Plain}
 use Rattle.grammar.specs.Grammar.{All, Multi, two, three_E0, three_E1, three_ED, three_EE, four_F0, four_F1, four_F4, Char, one, several, Many, none, Minus, plus, minus, Int, zero, other, Frac, whole, point, Exp, plain, bare, signed, Number, number, StringChar, unescaped, escape, unicode, quoted}
-use Rattle.grammar.specs.Reader.{or_p, byte_p, empty_p, cat_p, word_p, run_p, many_p, tail_p, two_p, three_p, four_p, multi_p, char_p, chars_p, minus_p, digits_p, int_p, frac_p, power_p, exp_p, number_p, hex_p, unicode_p, escape_p, string_char_p, StringFirst, string_p}
-use Rattle.grammar.proofs.Laws.{Laws, apart}
-use Rattle.grammar.proofs.Bytes.{Of, ByteLaws, is_only, say, wider, Is, byte_laws, Empty, empty_laws, Cat, cat_laws, Or, or_laws, run_laws, many_laws}
+use Rattle.grammar.specs.Reader.{or_p, byte_p, empty_p, cat_p, run_p, many_p, tail_p, two_p, three_p, four_p, multi_p, char_p, chars_p, minus_p, digits_p, int_p, frac_p, power_p, exp_p, number_p, hex_p, unicode_p, escape_p, string_char_p, StringFirst, string_p}
+use Rattle.grammar.proofs.Laws.{apart}
+use Rattle.grammar.proofs.Bytes.{ByteLaws, is_only, say, Is, byte_laws, Empty, empty_laws, Cat, cat_laws, Or, or_laws, run_laws, many_laws}
 
 abbrev Two : Class → Class → List ℕ → Type 0
 Two a b = Cat (Is a) (Is b)

@@ -1,17 +1,17 @@
 -- A parser that allows one level more answers the same where less depth suffices, and gets further where it does not. Assumes nothing.
-use Rattle.std.proofs.Common.{◌≡◌, ℕ, zero, suc, ◌+◌, ◌<◌, ◌≤◌, Bool, true, false, cond, ◌⊎◌, List, [], ◌∷◌, ◌++◌, length, sym, refl, ap, ◌∙◌, subst, inl, inr, true≢false, arith}
+use Rattle.std.proofs.Common.{◌≡◌, ℕ, zero, suc, ◌<◌, ◌≤◌, Bool, true, false, cond, ◌⊎◌, List, [], ◌∷◌, length, sym, refl, ap, ◌∙◌, subst, inl, inr, arith}
 use mathlib.Core.Bool.{false≢true}
 use Rattle.std.proofs.lemmas.Bool.{cases_lt}
-use Rattle.grammar.specs.Parse.{Out, ok, bad, deep, Res, res, map_o, map_r, Parser, Class, within, starts, Opening, one_p, bind, seq_p, pick, alt_p, map_p, onto, turn, loop, iter_p}
-use Rattle.grammar.specs.Classes.{only, Gap, ScalarFirst}
+use Rattle.grammar.specs.Parse.{ok, bad, deep, Res, res, map_r, Parser, Class, within, starts, Opening, one_p, bind, seq_p, pick, alt_p, map_p, onto, turn, loop, iter_p}
+use Rattle.grammar.specs.Classes.{only, Gap}
 use Rattle.grammar.specs.Grammar.{Frame, brackets, braces, closer}
-use Rattle.grammar.specs.Pieces.{Pieces, end, leaf, box, join, property, Token, comma, colon, name, token, token_byte}
-use Rattle.grammar.specs.Reader.{either, or_p, nothing_p, then_p, ahead, after_p, joins, only_leaf, string_p, token_p, trivia_p, scalar_p, open_token, close_token, box_of, end_p, name_p, member_p, item_p, turn_p, items_p, container_p, value_from, nested_p, value_p, ValueFirst, text_p}
+use Rattle.grammar.specs.Pieces.{Pieces, end, box, join, property, Token, comma, colon, name, token, token_byte}
+use Rattle.grammar.specs.Reader.{either, or_p, nothing_p, then_p, ahead, after_p, joins, only_leaf, string_p, token_p, trivia_p, scalar_p, open_token, close_token, box_of, end_p, name_p, member_p, item_p, turn_p, items_p, container_p, nested_p, value_p, ValueFirst, text_p}
 use Rattle.grammar.proofs.Laws.{Laws}
 use Rattle.grammar.proofs.Calm.{rest, Shrinks, shrinks, Progress, progress, NoDeep, Calm, calm_map, calm_alt, calm_string, calm_token, calm_nothing, calm_trivia, calm_scalar}
 use Rattle.grammar.proofs.Chars.{NumberMore}
 use Rattle.grammar.proofs.Gaps.{TriviaL, trivia_laws, trail}
-use Rattle.grammar.proofs.Values.{ValueL, NestedL, value_laws, ValueLaws, some_value, TurnL, turn_laws, item_first}
+use Rattle.grammar.proofs.Values.{ValueL, value_laws, some_value, TurnL, turn_laws}
 
 abbrev pub Below : {A : Type 0} → Res A → Res A → Type 0
 Below (res (ok a) t) y = y ≡ res (ok a) t

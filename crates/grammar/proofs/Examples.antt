@@ -1,5 +1,5 @@
 -- The reader on a few texts: by computation. Assumes nothing.
-use Rattle.std.proofs.Common.{◌≡◌, refl}
+use Rattle.std.proofs.Common.{refl}
 use Rattle.grammar.specs.Examples.{Examples}
 
 pub examples : Examples

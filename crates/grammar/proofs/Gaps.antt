@@ -1,14 +1,13 @@
 -- Trivia from one lexeme to the next: the laws of the loop over its pieces. Assumes nothing.
-use Rattle.std.proofs.Common.{◌≡◌, ℕ, suc, Bool, true, false, cond, ◌&&◌, ◌⊎◌, List, [], ◌∷◌, ◌++◌, length, sym, refl, ap, ◌∙◌, subst, inl, inr, true≢false, append_assoc, append-nil}
+use Rattle.std.proofs.Common.{◌≡◌, ℕ, suc, Bool, true, false, cond, ◌⊎◌, List, [], ◌∷◌, ◌++◌, length, sym, refl, ap, ◌∙◌, subst, inl, inr}
 use mathlib.Core.Bool.{false≢true}
-use Rattle.grammar.specs.Parse.{Out, ok, bad, deep, Res, res, map_r, Lang, Parser, Class, within, starts, Free, one_l, one_p, eps_l, eps_p, seq_l, seq_p, bind, alt_l, alt_p, pick, map_l, map_p, iterate, iter_l, iter_p, loop}
+use Rattle.grammar.specs.Parse.{ok, bad, deep, Res, res, map_r, Lang, Class, starts, Free, one_p, eps_l, eps_p, seq_p, alt_p, map_l, map_p, iterate, iter_l, iter_p}
 use Rattle.grammar.specs.Classes.{only, InLine, Blank, LineEnd, MultiFirst, Gap}
-use Rattle.grammar.specs.Layout.{Comment, Line, Block}
-use Rattle.grammar.specs.Grammar.{BlockComment, LineComment}
-use Rattle.grammar.specs.Pieces.{Token, Break, line_feed, carriage_return, both, Leaf, null, boolean, number, string, name, token, whitespace, newline, comment, Pieces, end, leaf, box, join}
-use Rattle.grammar.specs.Reader.{either, or_p, char_p, chars_p, block_p, empty_p, concats, loop_b, many_p, nothing_p, joins, loop_p, only_leaf, space_p, newline_p, line_end_p, comment_of, comment_p, plain_p, piece_p, unit_p, trivia_p}
+use Rattle.grammar.specs.Layout.{Line, Block}
+use Rattle.grammar.specs.Pieces.{Break, line_feed, carriage_return, both, Leaf, null, boolean, number, string, name, token, whitespace, newline, comment, Pieces, end, leaf, box, join}
+use Rattle.grammar.specs.Reader.{either, char_p, chars_p, empty_p, concats, nothing_p, joins, space_p, newline_p, line_end_p, comment_of, comment_p, plain_p, piece_p, unit_p, trivia_p}
 use Rattle.grammar.proofs.Laws.{Laws, Means, Says, apart, free_left, free_right, free_none, free_both, free_covers, one_laws, eps_laws, conv_laws, wide_laws, first_laws, choice_laws, OrL, Fine, fine_map, fine_bind, fine_next, fine_pick, fine_any, fine_loop, iter_laws, iter_ext}
-use Rattle.grammar.proofs.Trivias.{wide, wide_at, leaf_wide, break_wide, SpaceL, space_laws, fine_space, NewlineL, newline_laws, fine_newline, OpenMore, ClosedL, a_block, a_line, OpenL, CommentL, comment_laws, stop_wide, unit_ext, line_p, star_p}
+use Rattle.grammar.proofs.Trivias.{wide, wide_at, leaf_wide, break_wide, SpaceL, space_laws, fine_space, NewlineL, newline_laws, fine_newline, OpenMore, ClosedL, a_block, a_line, CommentL, comment_laws, stop_wide, unit_ext, line_p, star_p}
 
 -- a piece of trivia that goes on
 abbrev pub PlainL : Lang Pieces

@@ -1,17 +1,15 @@
 -- Trivia as the grammar has it, and as pieces: the same bytes with the same layout. Assumes nothing.
-use Rattle.std.proofs.Common.{◌≡◌, ℕ, ◌≤◌, Bool, true, false, cond, ◌⊎◌, List, [], ◌∷◌, ◌++◌, sym, refl, ap, ◌∙◌, subst, inl, inr, true≢false, append_assoc, append-nil, arith}
-use mathlib.Core.List.{cons≢nil}
-use mathlib.Core.Bool.{false≢true}
+use Rattle.std.proofs.Common.{◌≡◌, ℕ, Bool, true, false, List, [], ◌∷◌, ◌++◌, sym, refl, ap, ◌∙◌, subst, inl, inr, append_assoc, append-nil}
 use Rattle.std.proofs.lemmas.Bool.{or_cases}
-use Rattle.grammar.specs.Parse.{Lang, Class, within, Free, iterate}
+use Rattle.grammar.specs.Parse.{Class, within, Free}
 use Rattle.grammar.specs.Classes.{only, Blank, LineEnd}
 use Rattle.grammar.specs.Layout.{Comment, Line, Block, Layout, note, levels}
 use Rattle.grammar.specs.Grammar.{All, BlockComment, block, LineComment, line, Between, quiet, remark, broken, after, Trivia, empty, blank, newline, block_comment, line_comment, open_line}
-use Rattle.grammar.specs.Pieces.{Break, line_feed, carriage_return, both, Leaf, whitespace, comment, newline as break, Pieces, end, leaf, box, join, break_bytes, print, own, lay, lay_leaf}
+use Rattle.grammar.specs.Pieces.{Break, line_feed, carriage_return, both, whitespace, comment, newline as break, Pieces, end, leaf, box, join, break_bytes, print, own, lay}
 use Rattle.grammar.specs.Reader.{joins, only_leaf}
-use Rattle.grammar.proofs.Laws.{free_none, within_app, apart_ok, free_front}
-use Rattle.grammar.proofs.Bytes.{is_only, Is, Cat}
-use Rattle.grammar.proofs.Trivias.{wide, break_wide, Blanks, SpaceL, NewlineL, ClosedL, a_block, a_line, OpenL}
+use Rattle.grammar.proofs.Laws.{free_none, within_app, apart_ok}
+use Rattle.grammar.proofs.Bytes.{is_only}
+use Rattle.grammar.proofs.Trivias.{wide, break_wide, Blanks, ClosedL, a_block, a_line}
 use Rattle.grammar.proofs.Gaps.{UnitL, RunL, TriviaL}
 
 pub join_assoc : (a b c : Pieces) → join (join a b) c ≡ join a (join b c)

@@ -1,18 +1,13 @@
 -- Values and texts as the grammar has them, and as pieces: the same bytes with the same layout. Assumes nothing.
-use Rattle.std.proofs.Common.{◌≡◌, ℕ, zero, suc, ◌<◌, ◌≤◌, max, Bool, true, false, cond, ◌⊎◌, List, [], ◌∷◌, ◌++◌, sym, refl, ap, ◌∙◌, subst, inl, inr, true≢false, append_assoc, append-nil, arith}
-use mathlib.Core.Bool.{false≢true}
-use Rattle.grammar.specs.Parse.{Lang, Class, within, Free, seq_l, map_l, iterate, iter_l}
-use Rattle.grammar.specs.Classes.{only, Gap}
-use Rattle.grammar.specs.Layout.{Label, Null, Boolean, Numeral, Text, Array, Object, Member, Mark, Open, Close, Comma, Colon, Name, Layout, stop, note, mark, item, raised, levels}
-use Rattle.grammar.specs.Grammar.{Number, Many, StringChar, quoted, Between, after, Trivia, Frame, brackets, braces, opener, closer, shut, Value, null, truth, falsity, numeral, text, array, object, Item, element, member, Items, close, last, more, Sentence, nothing, something}
-use Rattle.grammar.specs.Pieces.{Token, comma, colon, Leaf, null as null-leaf, boolean, number, string, name, token, Box, property, array as array-box, object as object-box, Pieces, end, leaf, box, join, token_byte, print, own, lay, front, inner, name_of, label_of, mark_of}
-use Rattle.grammar.specs.Reader.{ahead, joins, only_leaf, open_token, close_token, box_of, ValueFirst}
-use Rattle.grammar.proofs.Laws.{free_none, apart_ok, tied_l}
-use Rattle.grammar.proofs.Chars.{Quoted, NumberMore}
-use Rattle.grammar.proofs.Gaps.{TriviaL, trail, trail_run, UnitL, RunL}
-use Rattle.grammar.proofs.Trivias.{OpenMore}
-use Rattle.grammar.proofs.Laid.{join_assoc, join_end, print_join, after_same, after_levels, Laid, trivia_to, Cut, cut, flag}
-use Rattle.grammar.proofs.Values.{JoinL, AheadL, TokenL, LeafL, ScalarL, ValueOf, NameL, EndL, AfterItemL, CloseL, InsideL, MemberL, ItemL, FromItemL, TurnL, ItemsL, ContainerL, BothL, NestedL, ValueL}
+use Rattle.std.proofs.Common.{◌≡◌, ℕ, zero, suc, ◌≤◌, max, Bool, true, false, ◌⊎◌, List, [], ◌∷◌, ◌++◌, sym, refl, ap, ◌∙◌, subst, inl, inr, append_assoc, append-nil, arith}
+use Rattle.grammar.specs.Parse.{Lang, iterate}
+use Rattle.grammar.specs.Layout.{Label, Null, Boolean, Numeral, Text, Array, Object, Member, Open, Comma, Colon, Name, Layout, stop, mark, item, raised, levels}
+use Rattle.grammar.specs.Grammar.{quoted, Between, after, Frame, brackets, braces, closer, shut, Value, null, truth, falsity, numeral, text, array, object, Item, element, member, Items, close, last, more}
+use Rattle.grammar.specs.Pieces.{comma, colon, name, token, property, Pieces, end, leaf, box, join, token_byte, print, lay, front, inner}
+use Rattle.grammar.specs.Reader.{joins, only_leaf, open_token, close_token, box_of}
+use Rattle.grammar.proofs.Gaps.{TriviaL}
+use Rattle.grammar.proofs.Laid.{join_assoc, join_end, print_join, after_same, after_levels, trivia_to}
+use Rattle.grammar.proofs.Values.{AheadL, TokenL, ScalarL, EndL, AfterItemL, CloseL, MemberL, ItemL, FromItemL, TurnL, ContainerL, ValueL}
 
 -- what stands between the quotes
 pub front_last : (t : List ℕ) (b : ℕ) → front (t ++ b ∷ []) ≡ t

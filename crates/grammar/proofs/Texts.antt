@@ -1,19 +1,19 @@
 -- Every value and text of the grammar has pieces, and whole texts: the laws of their parser. Assumes nothing.
-use Rattle.std.proofs.Common.{◌≡◌, ℕ, zero, suc, ◌<◌, ◌≤◌, max, Bool, true, false, cond, ◌⊎◌, List, [], ◌∷◌, ◌++◌, sym, refl, ap, ◌∙◌, subst, inl, inr, true≢false, append_assoc, append-nil, arith}
+use Rattle.std.proofs.Common.{◌≡◌, ℕ, zero, suc, ◌≤◌, max, Bool, true, false, ◌⊎◌, List, [], ◌∷◌, ◌++◌, sym, refl, ap, ◌∙◌, subst, inl, inr, true≢false, append_assoc, append-nil, arith}
 use mathlib.Core.Bool.{false≢true}
-use Rattle.grammar.specs.Parse.{Lang, Parser, Class, within, Free, eps_l, eps_p, seq_l, seq_p, map_l, map_p, iterate, iter_l}
-use Rattle.grammar.specs.Classes.{only, Gap}
+use Rattle.grammar.specs.Parse.{Lang, Class, within, Free, eps_l, eps_p, seq_l, seq_p, map_l, iterate}
+use Rattle.grammar.specs.Classes.{Gap}
 use Rattle.grammar.specs.Layout.{Label, Null, Boolean, Numeral, Text, Array, Object, Member, Mark, Open, Close, Comma, Colon, Name, Layout, stop, note, mark, item, raised, levels}
 use Rattle.grammar.specs.Grammar.{Between, after, Trivia, Frame, brackets, braces, closer, quoted, shut, Value, null, truth, falsity, numeral, text, array, object, Item, element, member, Items, close, last, more, Sentence, nothing, something}
 use Rattle.grammar.specs.Pieces.{Token, comma, colon, open_array, open_object, null as null-leaf, boolean, number, string, name, token, Box, property, array as array-box, object as object-box, Pieces, end, leaf, box, join, token_byte, print, lay, inner}
 use Rattle.grammar.specs.Reader.{or_p, then_p, nothing_p, trivia_p, joins, only_leaf, close_token, ValueFirst, value_p, text_p}
-use Rattle.grammar.proofs.Laws.{Laws, free_none, free_left, free_right, free_both, free_covers, covers_ok, apart_ok, eps_laws, conv_laws, map_laws, wide_laws, seq_laws, choice_laws, tied_l, tied_laws}
+use Rattle.grammar.proofs.Laws.{Laws, free_none, free_left, free_right, free_both, covers_ok, apart_ok, eps_laws, conv_laws, map_laws, seq_laws, choice_laws, tied_l, tied_laws}
 use Rattle.grammar.proofs.Chars.{NumberMore}
 use Rattle.grammar.proofs.Trivias.{OpenMore, stop_wide}
 use Rattle.grammar.proofs.Gaps.{TriviaL, trail, trail_at, trail_leaf, trail_run, inner_trail, UnitL, RunL, trivia_laws, trivia_greedy}
-use Rattle.grammar.proofs.Values.{JoinL, ItemL, TurnL, ItemsL, ValueL, value_laws, NestedL, BothL, ValueOf, ScalarL}
-use Rattle.grammar.proofs.Laid.{join_assoc, join_end, print_join, after_same, after_levels, Laid, trivia_to, Cut, cut}
-use Rattle.grammar.proofs.Sentences.{inner_quoted, shut_levels, closing, close_byte, Reading, value_to}
+use Rattle.grammar.proofs.Values.{JoinL, ItemL, TurnL, ValueL, value_laws}
+use Rattle.grammar.proofs.Laid.{join_assoc, join_end, print_join, after_same, after_levels, trivia_to, Cut, cut}
+use Rattle.grammar.proofs.Sentences.{inner_quoted, closing, close_byte, value_to}
 
 -- pieces for a part of the grammar
 pub record Back (L : Lang Pieces) (l : Label) (k : Layout) (u : List ℕ) : Type 0 where

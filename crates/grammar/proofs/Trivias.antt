@@ -1,12 +1,12 @@
 -- Trivia: the laws of its parsers. Assumes nothing.
-use Rattle.std.proofs.Common.{◌≡◌, ℕ, Bool, true, false, cond, ◌&&◌, ◌⊎◌, List, [], ◌∷◌, ◌++◌, sym, refl, ap, ◌∙◌, subst, inl, inr, true≢false, append_assoc, append-nil}
+use Rattle.std.proofs.Common.{◌≡◌, ℕ, Bool, true, false, cond, ◌&&◌, ◌⊎◌, List, [], ◌∷◌, ◌++◌, sym, refl, ap, ◌∙◌, subst, inl, inr, append-nil}
 use mathlib.Core.Bool.{false≢true}
-use Rattle.grammar.specs.Parse.{Out, ok, bad, deep, Res, res, map_r, Lang, Parser, Class, within, starts, Free, one_l, one_p, eps_l, eps_p, seq_l, seq_p, bind, alt_l, alt_p, pick, map_l, map_p, iterate, iter_l, iter_p}
-use Rattle.grammar.specs.Classes.{only, Ascii, InLine, Blank, LineEnd, MultiFirst, Gap}
-use Rattle.grammar.specs.Layout.{Comment, Line, Block}
+use Rattle.grammar.specs.Parse.{ok, res, map_r, Lang, Parser, Class, within, starts, Free, one_l, one_p, eps_l, eps_p, seq_l, seq_p, alt_l, alt_p, map_p}
+use Rattle.grammar.specs.Classes.{only, InLine, Blank, LineEnd, MultiFirst, Gap}
+use Rattle.grammar.specs.Layout.{Line, Block}
 use Rattle.grammar.specs.Grammar.{All, Char, Many, none, BlockComment, block, LineComment, line}
-use Rattle.grammar.specs.Pieces.{Token, Break, line_feed, carriage_return, both, Leaf, null, boolean, number, string, name, token, whitespace, newline, comment, Pieces, end, leaf, box, join, break_bytes}
-use Rattle.grammar.specs.Reader.{either, or_p, byte_p, cat_p, run_p, chars_p, block_p, nothing_p, joins, loop_p, only_leaf, space_p, returned, return_p, newline_p, line_end_p, comment_of, comment_p, plain_p, piece_p, unit_p, trivia_p}
+use Rattle.grammar.specs.Pieces.{Break, line_feed, carriage_return, both, Leaf, null, boolean, number, string, name, token, whitespace, newline, comment, Pieces, end, leaf, box, break_bytes}
+use Rattle.grammar.specs.Reader.{either, byte_p, cat_p, run_p, chars_p, block_p, only_leaf, space_p, returned, return_p, newline_p, line_end_p, comment_of, comment_p}
 use Rattle.grammar.proofs.Laws.{Laws, Means, apart, free_left, free_right, free_none, free_both, free_covers, one_laws, eps_laws, conv_laws, wide_laws, first_laws, seq_laws, alt_laws, alt_null, alt_ext, seq_ext, choice_laws, OrL, Fine, fine_map, fine_bind, fine_pick, fine_any, fine_loop, iter_laws}
 use Rattle.grammar.proofs.Bytes.{Of, ByteLaws, is_only, Is, byte_laws, Cat, cat_laws, run_laws}
 use Rattle.grammar.proofs.Chars.{chars_laws}

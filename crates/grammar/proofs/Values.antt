@@ -1,13 +1,12 @@
 -- Values: the laws of their parsers, by depth. Assumes nothing.
-use Rattle.std.proofs.Common.{◌≡◌, ℕ, zero, suc, ◌≤◌, Bool, true, false, cond, ◌&&◌, leb, ◌⊎◌, List, [], ◌∷◌, ◌++◌, sym, refl, ap, ◌∙◌, subst, inl, inr, true≢false, append_assoc, append-nil, arith}
-use mathlib.Core.List.{cons≢nil}
+use Rattle.std.proofs.Common.{◌≡◌, ℕ, zero, suc, Bool, true, false, cond, ◌&&◌, leb, ◌⊎◌, List, [], ◌∷◌, ◌++◌, sym, refl, ap, ◌∙◌, subst, inl, inr, arith}
 use mathlib.Core.Bool.{false≢true}
 use Rattle.std.proofs.lemmas.Bool.{le-leb, and_from, or_left}
-use Rattle.grammar.specs.Parse.{Out, ok, bad, deep, Res, res, map_o, map_r, Lang, Parser, Class, within, starts, Free, Opening, one_l, one_p, eps_l, eps_p, seq_l, seq_p, alt_l, alt_p, pick, map_l, map_p, iterate, iter_l, iter_p}
+use Rattle.grammar.specs.Parse.{Out, ok, bad, deep, Res, res, map_o, map_r, Lang, Parser, Class, within, starts, Free, Opening, one_l, one_p, seq_l, seq_p, alt_l, pick, map_l, map_p, iter_l, iter_p}
 use Rattle.grammar.specs.Classes.{only, Gap, ScalarFirst}
-use Rattle.grammar.specs.Grammar.{Number, Frame, brackets, braces, opener, closer, quoted, Many, none, number, plus, whole, plain, zero as zero-int}
-use Rattle.grammar.specs.Pieces.{Token, open_array, close_array, open_object, close_object, comma, colon, Leaf, null, boolean, string, name, token, number as numeral, Box, array, object, property, Pieces, end, leaf, box, join, token_byte}
-use Rattle.grammar.specs.Reader.{either, or_p, word_p, string_p, number_p, nothing_p, then_p, ahead, after_p, joins, loop_p, only_leaf, token_p, trivia_p, string_leaf_p, number_leaf_p, literal_p, null_p, true_p, false_p, scalar_p, open_token, close_token, box_of, end_p, name_p, member_p, item_p, turn_p, items_p, container_p, value_from, nested_p, value_p, ValueFirst}
+use Rattle.grammar.specs.Grammar.{Number, Frame, brackets, braces, opener, closer, number, plus, whole, plain, zero as zero-int}
+use Rattle.grammar.specs.Pieces.{Token, comma, colon, Leaf, null, boolean, string, name, token, number as numeral, property, Pieces, end, leaf, box, join, token_byte}
+use Rattle.grammar.specs.Reader.{either, or_p, word_p, string_p, number_p, then_p, ahead, after_p, joins, only_leaf, token_p, trivia_p, string_leaf_p, number_leaf_p, literal_p, null_p, true_p, false_p, scalar_p, open_token, close_token, box_of, end_p, name_p, member_p, item_p, turn_p, items_p, container_p, nested_p, value_p, ValueFirst}
 use Rattle.grammar.proofs.Laws.{Laws, Means, Says, Again, Halts, halts_map, says_map, apart, free_left, free_right, free_none, free_both, one_laws, conv_laws, map_laws, wide_laws, first_laws, seq_laws, choice_laws, alt_laws, iter_laws, starts_same, covers_ok}
 use Rattle.grammar.proofs.Bytes.{Of, ByteLaws, is_only, word_laws}
 use Rattle.grammar.proofs.Chars.{NumberFirst, NumberMore, number_laws, Quoted, string_laws}

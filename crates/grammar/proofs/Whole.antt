@@ -1,19 +1,18 @@
 -- The reader is right. Assumes nothing.
-use Rattle.std.proofs.Common.{◌≡◌, ℕ, zero, suc, ◌+◌, ◌-◌, ◌<◌, ◌≤◌, max, Bool, true, false, ◌⊎◌, List, [], ◌∷◌, ◌++◌, length, get_or, take, sym, refl, ap, ◌∙◌, subst, inl, inr, true≢false, append_assoc, append-nil, arith, length-append}
-use mathlib.Core.List.{nil≢cons, cons≢nil}
+use Rattle.std.proofs.Common.{◌≡◌, ℕ, zero, suc, ◌+◌, ◌-◌, ◌<◌, ◌≤◌, max, true, false, List, [], ◌∷◌, ◌++◌, length, get_or, take, sym, refl, ap, ◌∙◌, subst, inl, inr, append_assoc, append-nil, arith, length-append}
+use mathlib.Core.List.{cons≢nil}
 use mathlib.Core.Bool.{false≢true}
 use Rattle.std.proofs.lemmas.Bool.{cases_lt}
-use Rattle.grammar.specs.Parse.{Out, ok, bad, deep, Res, res, Class, within, starts, Opening}
-use Rattle.grammar.specs.Classes.{Gap}
+use Rattle.grammar.specs.Parse.{Out, ok, bad, deep, Res, res, within, Opening}
 use Rattle.grammar.specs.Layout.{Layout, levels}
 use Rattle.grammar.specs.Grammar.{Sentence}
-use Rattle.grammar.specs.Pieces.{Pieces, print, lay, layout}
-use Rattle.grammar.specs.Reader.{text_p, ValueFirst}
+use Rattle.grammar.specs.Pieces.{Pieces, lay, layout}
+use Rattle.grammar.specs.Reader.{text_p}
 use Rattle.grammar.specs.Answer.{Answer, Read, BadText, TooDeep, whole, read, Opens, OpensWithin, Stops, Deepens, Judged, good, bad_text, too_deep, Right}
-use Rattle.grammar.proofs.Laws.{Laws, Means, Again, Says, Halts}
+use Rattle.grammar.proofs.Laws.{Means, Again, Says}
 use Rattle.grammar.proofs.Calm.{rest}
-use Rattle.grammar.proofs.Depth.{Below, Under, text_up, under_far}
-use Rattle.grammar.proofs.Texts.{TextL, TextMore, text_laws, TextTo, text_to, text_from}
+use Rattle.grammar.proofs.Depth.{Below, text_up, under_far}
+use Rattle.grammar.proofs.Texts.{TextL, text_laws, text_to, text_from}
 
 -- starts of a list
 take_all : (u t : List ℕ) → take (length u) (u ++ t) ≡ u

@@ -1,6 +1,6 @@
 -- What the reader answers of a whole text, and what that means. Assumes nothing.
 use Rattle.std.specs.Prelude.{◌≡◌, ℕ, suc, ◌-◌, ◌<◌, ◌≤◌, true, List, [], ◌∷◌, ◌++◌, length, take, slice_index}
-use Rattle.grammar.specs.Parse.{Out, ok, bad, deep, Res, res, within, Opening}
+use Rattle.grammar.specs.Parse.{ok, bad, deep, Res, res, within, Opening}
 use Rattle.grammar.specs.Layout.{Layout, levels}
 use Rattle.grammar.specs.Grammar.{Sentence}
 use Rattle.grammar.specs.Pieces.{Pieces, print, layout}

@@ -1,5 +1,5 @@
 -- Classes of bytes, as ranges with both ends in, in the words of RFC 3629 and RFC 8259. Assumes nothing.
-use Rattle.std.specs.Prelude.{ℕ, List, [], ◌∷◌, ◌++◌}
+use Rattle.std.specs.Prelude.{ℕ, [], ◌∷◌}
 use Rattle.grammar.specs.Parse.{Class}
 
 -- one byte alone

@@ -1,6 +1,6 @@
 -- What the reader answers on a few telling texts. Assumes nothing.
 use Rattle.std.specs.Prelude.{◌≡◌, ℕ, zero, suc, Bool, true, false, List, [], ◌∷◌, ◌++◌, codes}
-use Rattle.grammar.specs.Pieces.{Pieces, end, leaf, box, array, property, object, name, number, string, whitespace, newline, comment, token, both, carriage_return, open_array, close_array, open_object, close_object, comma, colon}
+use Rattle.grammar.specs.Pieces.{Pieces, end, leaf, box, array, property, object, name, number, whitespace, newline, comment, token, both, carriage_return, open_array, close_array, open_object, close_object, comma, colon}
 use Rattle.grammar.specs.Layout.{Line, Block}
 use Rattle.grammar.specs.Answer.{Answer, Read, BadText, TooDeep, read}
 

@@ -2,7 +2,7 @@
 use Rattle.std.specs.Prelude.{◌≡◌, ℕ, Bool, true, false, List, [], ◌∷◌, ◌++◌, ◌≢◌}
 use Rattle.grammar.specs.Parse.{Class, within}
 use Rattle.grammar.specs.Classes.{Ascii, Tail, Digit, Digit1To9, Exponent, Signs, Hex, Escaped, Plain, Blank, LineEnd, InLine}
-use Rattle.grammar.specs.Layout.{Comment, Line, Block, Mark, Open, Close, Comma, Colon, Name, Label, Null, Boolean, Numeral, Text, Array, Object, Member, Layout, stop, note, mark, item}
+use Rattle.grammar.specs.Layout.{Comment, Line, Block, Open, Close, Comma, Colon, Name, Label, Null, Boolean, Numeral, Text, Array, Object, Member, Layout, stop, note, mark, item}
 
 -- each byte is of the class
 abbrev pub All : Class → List ℕ → Type 0

@@ -1,6 +1,6 @@
 -- The layout of a text: its lexemes other than whitespace and line breaks, in order, each with whether a Newline stands
 -- between it and the one before; and what the text says. Assumes nothing.
-use Rattle.std.specs.Prelude.{ℕ, suc, ◌≤◌, max, Bool, true, false, List, [], ◌∷◌, ◌++◌}
+use Rattle.std.specs.Prelude.{ℕ, suc, max, Bool, List, [], ◌∷◌, ◌++◌}
 
 -- a comment as it stands in the text, its marks with it
 pub data Comment : Type 0 where

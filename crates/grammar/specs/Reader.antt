@@ -1,11 +1,11 @@
 -- The reader: the pieces of a text, by one parser for each production. Assumes nothing.
 use Rattle.std.specs.Prelude.{ℕ, zero, suc, Bool, true, false, cond, ◌⊎◌, List, [], ◌∷◌, ◌++◌}
 use Rattle.std.proofs.Common.{inl, inr}
-use Rattle.grammar.specs.Parse.{Out, ok, bad, deep, Res, res, map_o, map_r, Parser, Class, within, Opening, one_p, eps_p, seq_p, alt_p, map_p, iter_p}
-use Rattle.grammar.specs.Classes.{only, Ascii, Tail, MultiFirst, Digit, Digit1To9, Exponent, Signs, Hex, Escaped, Plain, Blank, LineEnd, InLine, InBlock, Gap, ScalarFirst}
-use Rattle.grammar.specs.Layout.{Comment, Line, Block}
-use Rattle.grammar.specs.Grammar.{Frame, brackets, braces, opener, closer}
-use Rattle.grammar.specs.Pieces.{Token, open_array, close_array, open_object, close_object, comma, colon, Break, line_feed, carriage_return, both, Leaf, null, boolean, number, string, name, token, whitespace, newline, comment, Box, array, object, property, Pieces, end, leaf, box, join, token_byte}
+use Rattle.grammar.specs.Parse.{ok, deep, res, map_r, Parser, Class, within, Opening, one_p, eps_p, seq_p, alt_p, map_p, iter_p}
+use Rattle.grammar.specs.Classes.{only, Tail, MultiFirst, Digit, Digit1To9, Exponent, Signs, Hex, Escaped, Plain, Blank, LineEnd, InLine, InBlock, Gap, ScalarFirst}
+use Rattle.grammar.specs.Layout.{Line, Block}
+use Rattle.grammar.specs.Grammar.{Frame, brackets, braces, closer}
+use Rattle.grammar.specs.Pieces.{Token, open_array, close_array, open_object, close_object, comma, colon, line_feed, carriage_return, both, Leaf, null, boolean, number, string, name, token, whitespace, newline, comment, Box, array, object, property, Pieces, end, leaf, box, join, token_byte}
 
 -- one or the other, where the result does not say which
 abbrev pub either : {X : Type 0} → X ⊎ X → X

@@ -1,9 +1,9 @@
 -- One turn of a block comment. Assumes nothing.
-use Rattle.std.proofs.Common.{◌≡◌, ℕ, ◌+◌, ◌<◌, ◌≤◌, true, false, ◌⊎◌, List, [], ◌∷◌, length, get_or, drop, Result, sym, refl, ap, ◌∙◌, inl, inr, arith}
-use Rattle.grammar.specs.Parse.{ok, bad, res, map_r, Parser, starts, one_p, eps_p, bind, seq_p, pick, alt_p}
+use Rattle.std.proofs.Common.{◌≡◌, ℕ, ◌+◌, ◌<◌, ◌≤◌, true, false, ◌⊎◌, List, [], ◌∷◌, length, get_or, drop, Result, ap, ◌∙◌, inl, inr, arith}
+use Rattle.grammar.specs.Parse.{ok, res, map_r, Parser, starts, one_p, eps_p, bind, seq_p, pick, alt_p}
 use Rattle.grammar.specs.Classes.{only, InBlock}
 use Rattle.grammar.specs.Reader.{char_p, block_turn, block_turn_p, block_p}
-use Rattle.lexemes.specs.Scan.{Reads, Fails, Passes, Goes}
+use Rattle.lexemes.specs.Scan.{Fails, Passes, Goes}
 use Rattle.lexemes.proofs.Ties.{one_reads, loop_more, loop_done, loop_fails}
 use Rattle.lexemes.proofs.Lexed.{block_turns, bytes_char, bytes_moves}
 

@@ -1,10 +1,10 @@
 -- Each lexeme's bytes are what stands in the text. Assumes nothing.
-use Rattle.std.proofs.Common.{◌≡◌, ℕ, ◌+◌, ◌-◌, ◌<◌, ◌≤◌, ◌⊎◌, List, [], ◌∷◌, ◌++◌, length, take, drop, sym, refl, ap, ◌∙◌, subst, inl, inr, arith}
-use Rattle.grammar.specs.Parse.{Res, ok, bad, deep, res, map_r, Parser, Class, starts, one_p, eps_p, seq_p, alt_p, map_p, iter_p}
-use Rattle.grammar.specs.Classes.{only, Tail, MultiFirst, Digit, Digit1To9, Exponent, Signs, Hex, Escaped, Plain, InLine, InBlock}
+use Rattle.std.proofs.Common.{◌≡◌, ℕ, ◌+◌, ◌-◌, ◌≤◌, ◌⊎◌, List, [], ◌∷◌, ◌++◌, length, take, drop, refl, ap, inl, inr, arith}
+use Rattle.grammar.specs.Parse.{Parser, Class, one_p, eps_p, seq_p, alt_p, iter_p}
+use Rattle.grammar.specs.Classes.{only, Tail, MultiFirst, Digit, Digit1To9, Exponent, Signs, Hex, Escaped, Plain, InBlock}
 use Rattle.grammar.specs.Reader.{either, or_p, byte_p, empty_p, cat_p, word_p, run_p, concats, loop_b, many_p, tail_p, two_p, three_p, four_p, multi_p, char_p, chars_p, minus_p, digits_p, int_p, frac_p, power_p, exp_p, number_p, hex_p, unicode_p, escape_p, string_char_p, StringFirst, string_p, block_turn, block_turn_p, block_p}
-use Rattle.lexemes.specs.Scan.{Reads, Passes}
-use Rattle.lexemes.proofs.Laws.{Law1, Law, law_one, law_byte, law_eps, law_run, law_map, law_less, law_seq, sum2, law_alt, concat, law_iter, law_moves, law_part}
+use Rattle.lexemes.specs.Scan.{Reads}
+use Rattle.lexemes.proofs.Laws.{Law, law_one, law_eps, law_run, law_map, law_less, law_seq, sum2, law_alt, concat, law_iter, law_moves, law_part}
 use Rattle.lexemes.proofs.Ties.{goes, Turns}
 
 -- the answer is what was read, l bytes at least

@@ -1,4 +1,5 @@
 //! Where each lexeme of a house file ends: UTF-8 characters, comments, numbers, strings, words and runs of blanks.
+#![tactic(auto)]
 
 pub mod bytes;
 pub mod classes;

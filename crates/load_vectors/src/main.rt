@@ -1,4 +1,5 @@
 //! Replays the load scripts in data/ and compares every outcome and every tree's shape.
+#![tactic(auto)]
 
 mod replay;
 mod script;

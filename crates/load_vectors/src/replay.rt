@@ -2,7 +2,7 @@
 
 use crate::script::{behind, between_bars, unescaped};
 use crate::shape::Shape;
-use check::check_text;
+use checking::check_text;
 use refusal::Refusal;
 use std::alloc::{AllocError, Global};
 use std::io;
@@ -77,7 +77,7 @@ pub fn replay(rt: &HostRuntime, script: &str) -> io::Result<Tally> {
             compared(&mut tally, got.as_bytes() == rest);
         }
         if let Some(rest) = behind(bytes, b"ask ") {
-            shape_asked = rest == b"shape";
+            shape_asked = rest == b"shape".as_slice();
         }
         if let Some(rest) = behind(bytes, b"ans ") {
             if shape_asked {

@@ -10,7 +10,7 @@ use Rattle.forest.proofs.Frames.{one_eq, one_other}
 use Rattle.table.specs.Tables as table
 use Rattle.table.proofs.Seen.{tree_size, records_few}
 use Rattle.text.specs.Events.{events}
-use Rattle.check.specs.Counted.{fold}
+use Rattle.checking.specs.Counted.{fold}
 use Rattle.model.specs.Nodes.{loaded, pieces}
 use Rattle.model.specs.Asks as asks
 use Rattle.model.specs.Fits.{Document}

@@ -14,7 +14,7 @@ use Rattle.forest.proofs.Picks.{pick_here, pick_below, pick_after}
 use Rattle.table.specs.declared.kind.Kind.{Kind}
 use Rattle.table.specs.declared.node.Own.{Own}
 use Rattle.text.specs.Events.{Put, Enter, Leave, events}
-use Rattle.check.specs.Counted.{fold, fold_app}
+use Rattle.checking.specs.Counted.{fold, fold_app}
 use Rattle.model.specs.State.{up_from}
 use Rattle.loader.specs.Kinds.{leaf_kind, box_kind}
 use Rattle.loader.specs.Sites.{Site, fits, next_own, placed, added, place_for, turned, step}

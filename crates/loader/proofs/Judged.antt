@@ -12,8 +12,8 @@ use Rattle.text.specs.declared.fault.Fault.{Fault}
 use Rattle.text.specs.declared.fault.Fault.TheVariants.{Bad, Deep}
 use Rattle.text.specs.Events.{Event, events}
 use Rattle.text.specs.Reports.{Makes}
-use Rattle.check.specs.declared.extent.Extent.{Extent}
-use Rattle.check.specs.Checked.{extent_of, judged, checked}
+use Rattle.checking.specs.declared.extent.Extent.{Extent}
+use Rattle.checking.specs.Checked.{extent_of, judged, checked}
 use Rattle.model.specs.State.{Refused, Given, unless, loaded_state, load, loading}
 use Rattle.loader.specs.Loaded.{bad_sizes, RefusedSo, Fitting}
 

@@ -12,7 +12,7 @@ use Rattle.table.specs.declared.kind.Kind.TheVariants.{Root}
 use Rattle.table.specs.declared.node.Own.{Own}
 use Rattle.table.specs.Tables as table
 use Rattle.text.specs.Events.{Event, Put, Enter, Leave}
-use Rattle.check.specs.Counted.{fold, fold_app}
+use Rattle.checking.specs.Counted.{fold, fold_app}
 use Rattle.model.specs.State.{State}
 use Rattle.tree.specs.Well.{kids_in}
 use Rattle.loader.specs.declared.builder.Builder.{Builder}

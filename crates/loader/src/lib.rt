@@ -14,7 +14,7 @@ ghost use Rattle.loader.specs.Loaded.{Judging, Loaded, bad_sizes};
 ghost use Rattle.loader.specs.Sites.{Built};
 
 use builder::Builder;
-use check::{MAX_TEXT, check_text};
+use checking::{MAX_TEXT, check_text};
 use refusal::Refusal;
 use std::alloc::Global;
 use text::values::read_text;

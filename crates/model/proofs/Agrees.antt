@@ -2,7 +2,7 @@
 use Rattle.std.proofs.Common.{◌≡◌, ℕ, ◌+◌, ◌<◌, ◌≤◌, Bool, true, false, cond, not, ◌&&◌, ◌||◌, eqb, ltb, ◌⊎◌, List, [], ◌∷◌, ◌++◌, length, Some, None, Option, sym, refl, ap, ◌∙◌, subst, inl, inr, arith}
 use mathlib.Core.Bool.{false≢true}
 use Rattle.std.proofs.lemmas.Bool.{cond_both, eqb-true, ltb-true, ltb-false}
-use Rattle.grammar.specs.Layout.{Layout, levels, Parts, nil, part}
+use Rattle.grammar.specs.Layout.{Layout, Parts, nil, part}
 use Rattle.grammar.specs.Pieces.{nodes, stored, layout}
 use Rattle.grammar.proofs.Whole.{right}
 use Rattle.forest.specs.Forest.{end, node, count}

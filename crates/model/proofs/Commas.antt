@@ -1,16 +1,15 @@
 -- set_trailing_commas keeps the document, its comments and its value. Assumes nothing.
-use Rattle.std.proofs.Common.{◌≡◌, ℕ, zero, suc, ◌+◌, Bool, true, false, cond, not, ◌&&◌, ◌⊎◌, List, [], ◌∷◌, ◌++◌, sym, refl, ap, ◌∙◌, subst, inl, inr, true≢false, append_assoc, append-nil, arith}
+use Rattle.std.proofs.Common.{◌≡◌, ◌+◌, Bool, true, false, ◌&&◌, ◌++◌, sym, refl, ap, ◌∙◌, subst}
 use mathlib.Core.Bool.{false≢true}
-use Rattle.std.proofs.lemmas.Bool.{cond_both, and_parts, cases_Bool}
-use Rattle.grammar.specs.Layout.{Comment, Line, Block, Mark, Open, Close, Comma, Colon, Name, Label, Parts, nil, part}
-use Rattle.grammar.specs.Pieces.{Token, comma, Box, array, object, property, Pieces, leaf, box, name_of}
+use Rattle.std.proofs.lemmas.Bool.{cond_both, and_parts}
+use Rattle.grammar.specs.Layout.{Line, Block, Open, Close, Comma, Colon, Name, Label}
+use Rattle.grammar.specs.Pieces.{comma, Box, array, object, property, Pieces, name_of}
 use Rattle.forest.specs.Forest.{end, node, append}
-use Rattle.model.specs.Nodes.{Handle, handle, Sort, root, within, single, Own, Nodes, Gap, blank, break, remark, Class, gap, mark, value, class, piece, pieces, label_of, parts, parts_at}
+use Rattle.model.specs.Nodes.{handle, Sort, root, within, single, Nodes, Gap, blank, break, remark, Class, gap, mark, value, class, piece, pieces, label_of, parts, parts_at}
 use Rattle.model.specs.Asks.{is_comma, is_value}
 use Rattle.model.specs.Edits.{Supply, skip, sown, end_at, ends, untrailed, lined, due, dues, commas, trailed}
-use Rattle.model.specs.Fits.{Owner, top, of, Pos, start, items, next, named, only, shut, State, here, dead, spaced, gapped, marked, valued, step, run, begin, Ends, Role, sign, role, takes, Taken, Fits, IsEnd, Holds, Whole, Document, comments, remarks_of}
+use Rattle.model.specs.Fits.{Owner, of, Pos, start, items, next, named, only, shut, State, here, dead, spaced, step, run, begin, Ends, sign, takes, Taken, Fits, IsEnd, Holds, Whole, comments, remarks_of}
 use Rattle.model.proofs.Prints.{no_dead}
-use Rattle.model.proofs.Machine.{mark_goes, value_goes, dead_here}
 
 is_comma_lem : (c : Class) → is_comma c ≡ true → c ≡ mark Comma
 is_comma_lem (gap g) e = absurd (false≢true e)

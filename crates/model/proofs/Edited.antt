@@ -1,15 +1,15 @@
 -- A change of one child list, and what it does to the whole tree. Assumes nothing.
-use Rattle.std.proofs.Common.{◌≡◌, ℕ, ◌+◌, ◌<◌, ◌≤◌, Bool, true, false, cond, eqb, ltb, ◌⊎◌, List, [], ◌∷◌, ◌++◌, sym, refl, ap, ◌∙◌, subst, inl, inr, append_assoc, append-nil, arith}
-use Rattle.std.proofs.lemmas.Bool.{eqb-true, eqb-false, cond_both, cond-true, cond-false, cases_Bool, ne_eqb}
-use Rattle.grammar.specs.Layout.{Comment, Label, Parts, nil, part}
-use Rattle.grammar.specs.Pieces.{Box, array, object, property, Pieces, leaf, box, name_of}
-use Rattle.forest.specs.Forest.{end, node, one, count}
+use Rattle.std.proofs.Common.{◌≡◌, ℕ, ◌<◌, ◌≤◌, true, false, eqb, [], ◌++◌, sym, refl, ap, ◌∙◌, subst, inl, inr, append_assoc, arith}
+use Rattle.std.proofs.lemmas.Bool.{eqb-true, cond_both, cond-true, cond-false}
+use Rattle.grammar.specs.Layout.{Label, Parts, part}
+use Rattle.grammar.specs.Pieces.{array, object, property, Pieces, name_of}
+use Rattle.forest.specs.Forest.{end, node, count}
 use Rattle.forest.specs.Edits.{edited, kids}
 use Rattle.forest.proofs.Edited.{by_edit}
 use Rattle.forest.proofs.Frames.{one_eq}
-use Rattle.model.specs.Nodes.{Handle, handle, Sort, root, within, single, Own, Nodes, Gap, blank, break, remark, Class, gap, mark, value, class, piece, pieces, parts, parts_at, label_of, box_label}
+use Rattle.model.specs.Nodes.{Handle, handle, Sort, root, within, single, Own, Nodes, Class, gap, mark, value, class, piece, pieces, parts, parts_at, label_of}
 use Rattle.model.specs.Edits.{under}
-use Rattle.model.specs.Fits.{Owner, top, of, State, step, run, begin, Ends, takes, role, Taken, Fits, IsEnd, Holds, Whole, Document, comments, remarks_of}
+use Rattle.model.specs.Fits.{Owner, top, of, State, step, run, begin, Ends, Taken, Fits, IsEnd, Holds, Whole, Document, comments, remarks_of}
 use Rattle.model.specs.Changes.{At, Keeps, changed, Around}
 
 module _ (c : ℕ) (F : Nodes → Nodes) where

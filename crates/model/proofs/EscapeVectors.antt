@@ -1,6 +1,6 @@
 -- Escapes by example. Assumes nothing.
-use Rattle.std.proofs.Common.{◌≡◌, ℕ, List, [], ◌∷◌, refl}
-use mathlib.Core.Option.{Option, some, none}
+use Rattle.std.proofs.Common.{◌≡◌, [], ◌∷◌, refl}
+use mathlib.Core.Option.{some, none}
 use Rattle.model.specs.Escapes.{escaped, decoded}
 
 -- U+0080 and U+001F as `\u` escapes, quote and slash

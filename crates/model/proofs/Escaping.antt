@@ -1,12 +1,12 @@
 -- A text that is escaped is a string of the grammar, and says the text again. Assumes nothing.
-use Rattle.std.proofs.Common.{◌≡◌, ℕ, suc, ◌+◌, ◌-◌, ◌*◌, ◌/◌, ◌%◌, ◌<◌, ◌≤◌, Bool, true, false, cond, ◌&&◌, ◌||◌, eqb, ltb, leb, ◌⊎◌, List, [], ◌∷◌, ◌++◌, sym, refl, ap, ◌∙◌, subst, inl, inr, append_assoc, append-nil, arith}
+use Rattle.std.proofs.Common.{◌≡◌, ℕ, ◌+◌, ◌*◌, ◌/◌, ◌%◌, ◌<◌, ◌≤◌, true, false, ◌&&◌, eqb, ltb, leb, ◌⊎◌, List, [], ◌∷◌, ◌++◌, sym, refl, ap, ◌∙◌, subst, inl, inr, append_assoc, append-nil, arith}
 use mathlib.Core.Bool.{false≢true}
 use mathlib.Core.Option.{Option, some, none as nothing}
-use Rattle.std.proofs.lemmas.Bool.{eqb-true, eqb-false, ne_eqb, eq-eqb, leb-true, leb-false, le-leb, lt-leb, ltb-true, ltb-false, lt-ltb, le-ltb, and_parts, and_from, and_left, and_right, or_cases, or_parts, or_left, or_right, cond-true, cond-false, cond_both, cases_Bool}
+use Rattle.std.proofs.lemmas.Bool.{eqb-true, eqb-false, ne_eqb, leb-true, leb-false, le-leb, lt-leb, ltb-true, ltb-false, lt-ltb, le-ltb, and_parts, and_from, and_left, or_cases, or_parts, or_left, or_right, cond-true, cond-false, cond_both, cases_Bool}
 use Rattle.grammar.specs.Parse.{Class, within}
-use Rattle.grammar.specs.Classes.{Ascii, Tail, Plain, Hex, Escaped}
+use Rattle.grammar.specs.Classes.{Ascii, Tail, Plain, Hex}
 use Rattle.grammar.specs.Grammar.{Multi, two, three_E0, three_E1, three_ED, three_EE, four_F0, four_F1, four_F4, Char, one, several, Many, none, next, StringChar, unescaped, escape}
-use Rattle.model.specs.Escapes.{hex_digit, unicode, control, byte_escaped, control_pair, escaped, hex_value, plain_escape, utf8, first_half, second_half, ahead, Spot, before, slash, digits, unit, said, said_all, decoded_from, decoded}
+use Rattle.model.specs.Escapes.{hex_digit, unicode, control, byte_escaped, control_pair, escaped, hex_value, utf8, first_half, second_half, ahead, before, unit, decoded_from, decoded}
 
 -- a class of one range
 in_range : (a b x : ℕ) → within ((a, b) ∷ []) x ≡ true → (a ≤ x) × (x ≤ b)

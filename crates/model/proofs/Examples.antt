@@ -1,13 +1,13 @@
 -- The worked examples, and a few refusals, numbers, sources and accounts, by computation. Assumes nothing.
-use Rattle.std.proofs.Common.{◌≡◌, ℕ, Bool, true, false, List, [], ◌∷◌, Some, None, codes, Option, refl}
+use Rattle.std.proofs.Common.{◌≡◌, ℕ, [], ◌∷◌, Some, None, codes, refl}
 use Rattle.model.specs.Nodes.{Handle, parts, print}
 use Rattle.model.specs.Asks.{root_handle, at_path, then, named, trailing_comma}
 use Rattle.model.specs.Written.{Value}
-use Rattle.refusal.specs.declared.Refusal.TheVariants.{BadText, TooDeep, NoNode, NoText, Gone, NotHere, Worn, BadMemory}
-use Rattle.model.specs.State.{State, Outcome, Refused, Given, blank_state, load, Edit, Remove, Replace, SetRoot, Clear, SetTrailingCommas, IfMultiline, Work, after, outcome}
+use Rattle.refusal.specs.declared.Refusal.TheVariants.{BadText, NoNode, NoText, Gone, NotHere, Worn, BadMemory}
+use Rattle.model.specs.State.{State, Outcome, Refused, Given, blank_state, load, Remove, Replace, SetRoot, Clear, SetTrailingCommas, IfMultiline, Work, after, outcome}
 use Rattle.model.specs.Sources.{Row, bad_row, table_meaning, null_value, node_checked, node_meaning}
 use Rattle.grammar.specs.Layout.{Block, Null, Numeral, Array, nil, part}
-use Rattle.model.specs.Account.{Do, Print, Account}
+use Rattle.model.specs.Account.{Do, Print}
 use Rattle.model.specs.Promise.{account_of}
 use Rattle.model.specs.Rows.{Worked, text_value}
 

@@ -1,17 +1,17 @@
 -- replace, set_value and set_root keep a child list as the grammar has it, and put the new value in its place. Assumes nothing.
-use Rattle.std.proofs.Common.{◌≡◌, ℕ, zero, suc, ◌+◌, Bool, true, false, cond, eqb, ◌⊎◌, List, [], ◌∷◌, ◌++◌, sym, refl, ap, ◌∙◌, subst, inl, inr, true≢false, arith}
+use Rattle.std.proofs.Common.{◌≡◌, ℕ, suc, ◌+◌, Bool, true, false, eqb, sym, refl, ap, ◌∙◌, subst, inl, inr, true≢false, arith}
 use mathlib.Core.Bool.{false≢true}
 use Rattle.std.proofs.lemmas.Bool.{eqb-true, cond_both, cond-true, cond-false}
-use Rattle.grammar.specs.Layout.{Comment, Line, Block, Mark, Open, Close, Comma, Colon, Name, Label, Parts, nil, part}
-use Rattle.grammar.specs.Pieces.{Token, Leaf, token, newline, Break, Box, array, object, property, Pieces, end as no_pieces, leaf, box, nodes}
+use Rattle.grammar.specs.Layout.{Line, Block, Parts, part}
+use Rattle.grammar.specs.Pieces.{newline, Break, Pieces, end as no_pieces, leaf, box, nodes}
 use Rattle.forest.specs.Forest.{end, node, append}
-use Rattle.model.specs.Nodes.{Handle, handle, Sort, root, within, single, Own, Nodes, Gap, blank, break, remark, Class, gap, mark, value, class, leaf_class, pieces, label_of, parts, parts_at}
+use Rattle.model.specs.Nodes.{Handle, handle, Own, Nodes, Gap, blank, break, remark, Class, gap, mark, value, class, leaf_class, pieces, label_of, parts, parts_at}
 use Rattle.model.specs.Asks.{is_break}
-use Rattle.model.specs.Edits.{Supply, skip, grown, sown, onto, Local, local_from, local, exchanged, Cut, cut_at, root_cut, is_remark, break_before, break_behind, root_put}
-use Rattle.model.specs.Fits.{Owner, top, of, Pos, start, items, next, named, only, shut, State, here, dead, loose, spaced, gapped, marked, valued, step, run, begin, Ends, Role, element, role, leaf_role, box_role, takes, Taken, Fits, IsEnd, Holds, Whole}
+use Rattle.model.specs.Edits.{Supply, skip, sown, onto, local_from, local, exchanged, cut_at, root_cut, is_remark, break_before, root_put}
+use Rattle.model.specs.Fits.{Owner, top, of, items, next, State, here, spaced, gapped, step, run, begin, Ends, element, role, takes, Taken, Fits, Whole}
 use Rattle.model.specs.Changes.{At, Each, Trivial, chain, swapped}
 use Rattle.model.proofs.Prints.{no_dead}
-use Rattle.model.proofs.Machine.{back, run_onto, gap_inv, dead_here, items_value}
+use Rattle.model.proofs.Machine.{back, run_onto, gap_inv, dead_here}
 use Rattle.model.proofs.Removes.{each_onto, onto_each, Kept, each_kept, kept_fits, local_ways, at_here}
 use Rattle.model.proofs.Parted.{lead, parts_onto}
 use Rattle.model.proofs.Loaded.{runs, TakenP, FitsP, WholeP, Goes, Stands}

@@ -1,10 +1,10 @@
 -- Edits that write nothing leave each place at most as often as it stood. Assumes nothing.
-use Rattle.std.proofs.Common.{◌≡◌, ℕ, ◌+◌, ◌<◌, ◌≤◌, Bool, true, false, cond, not, ◌&&◌, eqb, Some, None, Option, sym, refl, ap, ◌∙◌, subst, arith}
+use Rattle.std.proofs.Common.{◌≡◌, ℕ, ◌+◌, ◌≤◌, Bool, true, false, not, ◌&&◌, eqb, Some, None, Option, sym, refl, ap, arith}
 use Rattle.std.proofs.lemmas.Bool.{cond_both}
-use Rattle.grammar.specs.Layout.{Mark, Open, Close, Comma, Colon, Name}
+use Rattle.grammar.specs.Layout.{Open, Close, Comma, Colon, Name}
 use Rattle.forest.specs.Forest.{end, node, one, count}
 use Rattle.forest.specs.Edits.{edited}
-use Rattle.model.specs.Nodes.{Own, Nodes, Gap, blank, break, remark, Class, gap, mark, value, class}
+use Rattle.model.specs.Nodes.{Nodes, blank, break, remark, Class, gap, mark, value, class}
 use Rattle.model.specs.Asks.{is_comma}
 use Rattle.model.specs.Edits.{onto, local_from, local, under, back_at, back_line, un_comma, past_at, past_comma, line_ends, solid_next, rest_at, drop_line, empty, tight_at, tight, tidy, closed, removal, remove, ends, untrailed}
 use Rattle.model.specs.Changes.{Placed}

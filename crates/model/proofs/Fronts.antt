@@ -1,10 +1,9 @@
 -- Pieces read from the front, one at a time: trivia, and then what the grammar makes of the rest. Assumes nothing.
 use Rattle.std.proofs.Common.{◌≡◌, ℕ, Bool, true, false, List, [], ◌∷◌, ◌++◌, sym, refl, ap, ◌∙◌, subst, append_assoc, append-nil}
-use Rattle.grammar.specs.Parse.{within}
-use Rattle.grammar.specs.Classes.{Blank, LineEnd}
+use Rattle.grammar.specs.Classes.{Blank}
 use Rattle.grammar.specs.Layout.{Comment, Line, Block, Layout, stop, note}
 use Rattle.grammar.specs.Grammar.{All, BlockComment, LineComment, Between, quiet, remark, broken, after, Trivia, empty, blank, newline, block_comment, line_comment, open_line}
-use Rattle.grammar.specs.Pieces.{Break, line_feed, carriage_return, both, Leaf, whitespace, comment, newline as break, Pieces, end, leaf, box, break_bytes, print, lay}
+use Rattle.grammar.specs.Pieces.{Break, line_feed, carriage_return, both, whitespace, comment, newline as break, Pieces, end, leaf, break_bytes, print, lay}
 use Rattle.grammar.proofs.Laid.{flag}
 
 broken_twice : (g : Between) → broken (broken g) ≡ broken g

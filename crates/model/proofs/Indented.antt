@@ -1,11 +1,11 @@
 -- The indents that edits write are spaces and tabs. Assumes nothing.
-use Rattle.std.proofs.Common.{◌≡◌, ℕ, zero, suc, Bool, true, false, cond, eqb, ltb, List, [], ◌∷◌, ◌++◌, Some, None, Option, sym, refl, ap, ◌∙◌, subst, arith}
+use Rattle.std.proofs.Common.{◌≡◌, ℕ, zero, suc, cond, eqb, ltb, List, [], ◌∷◌, Some, None, Option, sym, refl, subst, arith}
 use Rattle.std.proofs.lemmas.Bool.{cond_both}
 use Rattle.grammar.specs.Classes.{Blank}
 use Rattle.grammar.specs.Grammar.{All}
 use Rattle.grammar.specs.Pieces.{Leaf, null, boolean, number, string, name, token, whitespace, newline, comment}
 use Rattle.forest.specs.Forest.{end, node, count}
-use Rattle.model.specs.Nodes.{Sort, root, within, single, Own, Nodes, Gap, blank, break, remark, Class, gap, mark, value, class}
+use Rattle.model.specs.Nodes.{Sort, root, within, single, Own, Nodes, blank, break, remark, Class, gap, mark, value, class}
 use Rattle.model.specs.Asks.{Frame, Spot, spot_in, spot_at, or_else, spelt, gather, indent_at, indent_from, indent_before, indent_text, value_kids, is_value, is_root, is_property, sort_of}
 use Rattle.model.specs.Indents.{Indents, two_spaces, times, rest, past_property, counts, Searched, Found, Ended, begins, compared, searched, first_indent, stepped, unfound, settled, root_indents, node_indents, indents}
 use Rattle.model.specs.Fits.{Holds, Whole}

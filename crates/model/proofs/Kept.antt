@@ -1,15 +1,14 @@
 -- Each edit keeps the document, and does to its value what it should. Assumes nothing.
-use Rattle.std.proofs.Common.{◌≡◌, ℕ, Bool, true, false, cond, eqb, ◌⊎◌, List, [], ◌∷◌, ◌++◌, sym, refl, ap, ◌∙◌, subst, inl, inr, true≢false}
-use mathlib.Core.Bool.{false≢true}
+use Rattle.std.proofs.Common.{◌≡◌, ℕ, Bool, true, false, cond, eqb, sym, refl, ap, ◌∙◌, subst, inl, inr, true≢false}
 use Rattle.std.proofs.lemmas.Bool.{cond_both, eqb-true}
-use Rattle.grammar.specs.Layout.{Comment, Label, Parts, nil, part}
+use Rattle.grammar.specs.Layout.{Parts, nil, part}
 use Rattle.grammar.specs.Pieces.{Break, Box, array, object, property, Pieces}
 use Rattle.forest.specs.Forest.{end, node}
 use Rattle.forest.specs.Edits.{edited}
-use Rattle.model.specs.Nodes.{Handle, Sort, within, Own, Nodes, value, class, pieces, label_of, box_label, parts}
-use Rattle.model.specs.Edits.{Supply, sown, local, under, removal, remove, untrailed, lined, trailed, exchanged, exchange, root_cut, root_put, Lines, unspaced, spread_out}
-use Rattle.model.specs.Fits.{Owner, top, of, title, element, takes, Fits, Whole, Document, comments}
-use Rattle.model.specs.Changes.{At, Keeps, changed, changed_under, lost, swapped, Each, Trivial, IsBracketed, IsContainer, IsItem, IsElement, Blanked}
+use Rattle.model.specs.Nodes.{Handle, within, Own, Nodes, value, class, pieces, label_of, parts}
+use Rattle.model.specs.Edits.{Supply, sown, local, under, removal, remove, untrailed, trailed, exchanged, exchange, root_cut, root_put, Lines, unspaced, spread_out}
+use Rattle.model.specs.Fits.{top, of, title, takes, Whole, Document, comments}
+use Rattle.model.specs.Changes.{At, changed, changed_under, lost, swapped, Each, Trivial, IsBracketed, IsContainer, IsItem, IsElement, Blanked}
 use Rattle.model.proofs.Edited.{document_under, comments_edited, parts_edited}
 use Rattle.model.proofs.Removes.{remove_fits}
 use Rattle.model.proofs.Parted.{remove_parts}

@@ -1,14 +1,14 @@
 -- What follows a removed node, in the tree and in the layout of its text: the same comments stay. Assumes nothing.
-use Rattle.std.proofs.Common.{◌≡◌, ℕ, Bool, true, false, cond, not, ◌&&◌, ◌||◌, List, [], ◌∷◌, ◌++◌, Some, None, Option, sym, refl, ap, ◌∙◌, subst, true≢false, append-nil}
+use Rattle.std.proofs.Common.{◌≡◌, ℕ, Bool, true, false, cond, not, ◌&&◌, ◌||◌, [], ◌++◌, Some, None, Option, sym, refl, ap, ◌∙◌, subst, append-nil}
 use mathlib.Core.Bool.{false≢true}
-use Rattle.grammar.specs.Layout.{Comment, Mark, Open, Close, Comma, Colon, Name, Label, Layout, stop, note, mark as tick, item, notes}
-use Rattle.grammar.specs.Pieces.{Leaf, null, boolean, number, string, name, token, whitespace, newline, comment, Pieces, leaf, box, lay, label_of as piece_label}
+use Rattle.grammar.specs.Layout.{Open, Close, Comma, Colon, Name, Label, Layout, stop, note, mark as tick, item, notes}
+use Rattle.grammar.specs.Pieces.{Leaf, null, boolean, number, string, name, token, whitespace, newline, comment, Pieces, lay, label_of as piece_label}
 use Rattle.forest.specs.Forest.{end, node}
-use Rattle.model.specs.Nodes.{Sort, root, within, single, Own, Nodes, Gap, blank, break, remark, Class, gap, mark, value, class, leaf_label, piece, pieces}
+use Rattle.model.specs.Nodes.{Sort, root, within, single, Own, Nodes, blank, break, remark, Class, gap, mark, value, class, leaf_label, piece, pieces}
 use Rattle.model.specs.Asks.{is_gap, is_comma}
-use Rattle.model.specs.Edits.{back_line, un_comma, past_at, past_comma, line_at, line_ends, solid_next, rest_at, drop_line, empty, tight_at, tight, tidy, closed, removal}
-use Rattle.model.specs.Fits.{Spelled, Holds, Whole, comments, remarks_of}
-use Rattle.model.specs.Account.{breaks, comma_mark, after_comma, gap_notes, line_notes, past_line, Split, followed}
+use Rattle.model.specs.Edits.{back_line, un_comma, past_at, past_comma, line_at, line_ends, solid_next, rest_at, drop_line, empty, tight_at, tight, closed, removal}
+use Rattle.model.specs.Fits.{Holds, Whole, comments, remarks_of}
+use Rattle.model.specs.Account.{breaks, after_comma, gap_notes, line_notes, past_line, Split, followed}
 use Rattle.model.specs.Changes.{notes_before}
 use Rattle.std.proofs.lemmas.Bool.{cond_both}
 use Rattle.model.proofs.Says.{comments_onto}

@@ -1,21 +1,20 @@
 -- The tree of a text that the reader takes is a document. Assumes nothing.
-use Rattle.std.proofs.Common.{◌≡◌, ℕ, zero, suc, ◌+◌, Bool, true, false, ◌⊎◌, List, [], ◌∷◌, ◌++◌, sym, refl, ap, ◌∙◌, subst, inl, inr, true≢false, append_assoc, append-nil, arith}
+use Rattle.std.proofs.Common.{◌≡◌, ℕ, zero, suc, ◌+◌, Bool, true, false, ◌⊎◌, List, [], ◌∷◌, ◌++◌, sym, refl, ap, ◌∙◌, subst, inl, inr, true≢false, arith}
 use mathlib.Core.Bool.{false≢true}
-use Rattle.grammar.specs.Parse.{Out, ok, bad, deep, Res, res, Lang, Free, within as in_class, iterate}
+use Rattle.grammar.specs.Parse.{ok, bad, deep, Res, res, Lang, Free, iterate}
 use Rattle.grammar.specs.Classes.{Blank}
-use Rattle.grammar.specs.Layout.{Comment, Line, Block, Mark, Open, Close, Comma, Colon, Name}
-use Rattle.grammar.specs.Grammar.{All, Number, Frame, brackets, braces, quoted, Many, StringChar}
-use Rattle.grammar.specs.Pieces.{Token, open_array, close_array, open_object, close_object, comma, colon, Break, Leaf, null, boolean, number, string, name, token, whitespace, newline, comment, Box, array, object, property, Pieces, end as no_pieces, leaf, box, join, nodes, mark_of}
+use Rattle.grammar.specs.Layout.{Line, Block}
+use Rattle.grammar.specs.Grammar.{All, Frame, brackets, braces}
+use Rattle.grammar.specs.Pieces.{Token, comma, colon, Leaf, null, boolean, number, string, name, token, whitespace, newline, comment, Box, array, object, property, Pieces, end as no_pieces, leaf, box, join, nodes, mark_of}
 use Rattle.grammar.specs.Reader.{joins, only_leaf, open_token, close_token, box_of, ValueFirst, text_p}
-use Rattle.grammar.specs.Answer.{Answer, Read, BadText, TooDeep, read, whole}
+use Rattle.grammar.specs.Answer.{Read, read, whole}
 use Rattle.grammar.proofs.Laws.{Means, covers_ok}
 use Rattle.grammar.proofs.Trivias.{Blanks, NewlineL, ClosedL, a_block, a_line, OpenMore, stop_wide}
 use Rattle.grammar.proofs.Gaps.{UnitL, RunL, TriviaL, trail, trail_run}
 use Rattle.grammar.proofs.Values.{AheadL, TokenL, ScalarL, CloseL, EndL, AfterItemL, FromItemL, MemberL, ItemL, TurnL, ContainerL, NestedL, ValueL, value_laws}
 use Rattle.grammar.proofs.Texts.{TextL, text_laws}
-use Rattle.forest.specs.Forest.{end, node}
-use Rattle.model.specs.Nodes.{Sort, within, single, Own, Nodes, Gap, blank, break, remark, Class, gap, mark, value, class, leaf_class, numbered, loaded}
-use Rattle.model.specs.Fits.{Owner, top, of, Pos, start, items, next, named, only, shut, State, here, dead, loose, spaced, gapped, step, run, begin, Ends, Role, element, member, title, role, leaf_role, box_role, takes, Taken, Fits, Spelled, Holds, Whole, Document}
+use Rattle.model.specs.Nodes.{Gap, blank, break, remark, mark, value, leaf_class, numbered, loaded}
+use Rattle.model.specs.Fits.{Owner, top, of, Pos, start, items, next, named, only, shut, State, here, loose, spaced, gapped, step, run, begin, Ends, element, leaf_role, box_role, takes, Taken, Fits, Spelled, Whole, Document}
 
 -- the machine over pieces
 abbrev pub runs : State → Pieces → State

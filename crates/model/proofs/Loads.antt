@@ -1,11 +1,11 @@
 -- A newly loaded tree: its pieces, its nodes in text order, its comments and its value. Assumes nothing.
-use Rattle.std.proofs.Common.{◌≡◌, ℕ, zero, suc, ◌+◌, ◌<◌, ◌≤◌, Bool, true, false, cond, eqb, ◌⊎◌, List, [], ◌∷◌, ◌++◌, sym, refl, ap, ◌∙◌, subst, inl, inr, append_assoc, append-nil, arith}
+use Rattle.std.proofs.Common.{◌≡◌, ℕ, zero, suc, ◌+◌, ◌<◌, ◌≤◌, Bool, true, false, eqb, ◌⊎◌, List, [], ◌∷◌, ◌++◌, refl, ap, ◌∙◌, inl, inr, arith}
 use Rattle.std.proofs.lemmas.Bool.{cases_eq, cases_lt, eq-eqb, ne_eqb, cond-true, cond-false}
-use Rattle.grammar.specs.Layout.{Comment, Label, Layout, meaning, notes, Parts, nil, part}
+use Rattle.grammar.specs.Layout.{Comment, meaning, notes, Parts, nil, part}
 use Rattle.grammar.specs.Pieces.{Leaf, null, boolean, number, string, name, token, whitespace, newline, comment, Box, array, object, property, Pieces, end as no_pieces, leaf, box, nodes, lay, label_of as piece_label}
 use Rattle.forest.specs.Forest.{end, node, one, count, size, places}
 use Rattle.model.specs.Nodes.{Handle, handle, Sort, root, within, single, Own, Nodes, Gap, blank, break, remark, Class, gap, mark, value, class, leaf_class, pieces, numbered, parts, parts_at, label_of, box_label, leaf_label}
-use Rattle.model.specs.Fits.{Spelled, IsEnd, Fits, Holds, Whole, Document, comments, remarks_of, bare}
+use Rattle.model.specs.Fits.{IsEnd, Holds, Whole, comments, remarks_of, bare}
 use Rattle.model.specs.Numbers.{numbers}
 use Rattle.model.specs.State.{up_from}
 

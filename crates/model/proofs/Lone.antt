@@ -1,12 +1,12 @@
 -- A document has one value at most, so every value and member of it has a path. Assumes nothing.
-use Rattle.std.proofs.Common.{◌≡◌, ℕ, zero, suc, Bool, true, false, List, [], ◌∷◌, Some, None, Option, sym, refl, ap, ◌∙◌, subst, true≢false, arith}
+use Rattle.std.proofs.Common.{◌≡◌, ℕ, zero, suc, Bool, true, false, List, Some, sym, refl, ap, ◌∙◌, arith}
 use mathlib.Core.Bool.{false≢true}
-use Rattle.grammar.specs.Layout.{Comment, Line, Block, Mark, Parts, nil, part}
+use Rattle.grammar.specs.Layout.{Line, Block, Mark, Parts, nil, part}
 use Rattle.grammar.specs.Pieces.{Leaf, null, boolean, number, string, name, token, whitespace, newline, comment}
 use Rattle.forest.specs.Forest.{end, node}
-use Rattle.model.specs.Nodes.{Handle, handle, Sort, root, within, single, Own, Nodes, Gap, blank, break, remark, Class, gap, mark, value, class, pieces, parts, parts_at, label_of}
+use Rattle.model.specs.Nodes.{Handle, handle, Sort, root, within, single, Nodes, blank, break, remark, Class, gap, mark, value, class, pieces, parts, parts_at, label_of}
 use Rattle.model.specs.Asks.{at}
-use Rattle.model.specs.Fits.{top, items, next, here, State, step, run, Ends, role, takes, Taken, Document}
+use Rattle.model.specs.Fits.{top, items, next, here, step, run, Ends, role, takes, Taken, Document}
 use Rattle.model.proofs.Prints.{no_dead}
 use Rattle.model.proofs.Removes.{some_none}
 

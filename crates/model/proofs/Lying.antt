@@ -1,19 +1,13 @@
 -- Where a handle's node lies: by its spot, and by its path in the value. Assumes nothing.
-use Rattle.std.proofs.Common.{◌≡◌, ℕ, zero, suc, ◌+◌, ◌<◌, ◌≤◌, Bool, true, false, cond, ◌&&◌, eqb, ltb, ◌⊎◌, List, [], ◌∷◌, ◌++◌, Some, None, Option, sym, refl, ap, ◌∙◌, subst, inl, inr, true≢false, arith}
-use mathlib.Core.Bool.{false≢true}
-use Rattle.std.proofs.lemmas.Bool.{eqb-true, eqb-false, eq-eqb, ltb-true, cond_both, cond-true, cond-false}
-use Rattle.grammar.specs.Layout.{Label, Parts, nil, part}
-use Rattle.grammar.specs.Pieces.{Box}
-use Rattle.forest.specs.Forest.{end, node, one, count}
-use Rattle.forest.proofs.Frames.{one_eq}
-use Rattle.model.specs.Nodes.{Handle, handle, same, Sort, root, within, single, Own, Nodes, Gap, Class, gap, mark, value, class, pieces, parts, parts_at, label_of}
-use Rattle.model.specs.Asks.{Frame, Spot, spot_in, spot_at, numbered_so, named, then, sort_of, spot_handle, tree, is_value, value_in, Way, inside as level, behind, or_else, way_to, from_root, path_to, path}
-use Rattle.model.specs.Fits.{Holds, Whole}
-use Rattle.model.specs.Changes.{At, Placed}
+use Rattle.std.proofs.Common.{◌≡◌, ℕ, zero, suc, ◌+◌, ◌<◌, ◌≤◌, Bool, true, false, cond, ◌&&◌, eqb, ltb, List, [], ◌∷◌, Some, None, Option, sym, refl, ap, ◌∙◌, subst, arith}
+use Rattle.std.proofs.lemmas.Bool.{eqb-true, eq-eqb, ltb-true, cond_both}
+use Rattle.forest.specs.Forest.{end, node, count}
+use Rattle.model.specs.Nodes.{Handle, handle, same, root, Own, Nodes, Class, gap, mark, value, class, pieces, parts, parts_at, label_of}
+use Rattle.model.specs.Asks.{Frame, Spot, spot_in, spot_at, numbered_so, named, then, sort_of, spot_handle, Way, inside as level, behind, or_else, way_to, from_root, path_to, path}
+use Rattle.model.specs.Fits.{Whole}
+use Rattle.model.specs.Changes.{Placed}
 use Rattle.model.specs.Accounted.{counted, Among, first, later, Below, child, deeper, along, Lies, on_top, inside}
-use Rattle.model.proofs.Edited.{at_count, at_once}
 use Rattle.model.proofs.Removes.{some_none}
-use Rattle.model.proofs.Commas.{class_is_value}
 use Rattle.model.proofs.Spots.{Spotted, the_root, a_node, spot_found}
 use Rattle.model.proofs.Ways.{off, as_value}
 use Rattle.model.proofs.Walks.{holder, among_count, below_count}

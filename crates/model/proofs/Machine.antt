@@ -1,10 +1,10 @@
 -- The machine that reads a child list: what it does at trivia, tokens and values, forwards and backwards. Assumes nothing.
-use Rattle.std.proofs.Common.{◌≡◌, ℕ, Bool, true, false, cond, ◌⊎◌, sym, refl, ap, ◌∙◌, subst, inl, inr, arith}
-use Rattle.grammar.specs.Layout.{Comment, Line, Block, Mark, Open, Close, Comma, Colon, Name}
+use Rattle.std.proofs.Common.{◌≡◌, ℕ, Bool, true, false, sym, refl, ap, ◌∙◌, arith}
+use Rattle.grammar.specs.Layout.{Line, Block, Mark, Open, Close, Comma, Colon, Name}
 use Rattle.forest.specs.Forest.{end, node}
-use Rattle.model.specs.Nodes.{Sort, Own, Nodes, Gap, blank, break, remark, Class, gap, mark, value, class}
+use Rattle.model.specs.Nodes.{Nodes, Gap, blank, break, remark, Class, gap, mark, value, class}
 use Rattle.model.specs.Edits.{onto}
-use Rattle.model.specs.Fits.{Owner, top, of, Pos, start, items, next, named, only, shut, State, here, dead, loose, plainly, ended, spaced, gapped, marked, valued, step, run, begin, Ends}
+use Rattle.model.specs.Fits.{Owner, top, of, Pos, start, items, next, named, only, shut, State, here, dead, loose, spaced, gapped, marked, valued, step, run, begin, Ends}
 use Rattle.model.proofs.Prints.{no_dead}
 
 -- the machine after the siblings before, nearest first

@@ -114,9 +114,9 @@ bytes_same (x ∷ a) (y ∷ b) e =
     ap (λ u. u ∷ a) (eqb-true x y z.0) ∙ ap (λ u. y ∷ u) (bytes_same a b z.1)
 
 -- and the same bytes compare so
-same_bytes : (a : List ℕ) → same_bytes a a ≡ true
-same_bytes [] = refl
-same_bytes (x ∷ a) = and_from (eqb x x) (same_bytes a a) (eq-eqb x x refl) (same_bytes a)
+same_bytes_lem : (a : List ℕ) → same_bytes a a ≡ true
+same_bytes_lem [] = refl
+same_bytes_lem (x ∷ a) = and_from (eqb x x) (same_bytes a a) (eq-eqb x x refl) (same_bytes_lem a)
 
 -- the node at p is the one that h names, of the sort s
 abbrev pub is : Handle → Sort → ℕ → Own → Bool
@@ -141,7 +141,7 @@ is_parts h s p i e =
 is_from : (h : Handle) (s : Sort) (p : ℕ) (i : Own) → p ≡ h.place → i.number ≡ h.number → i.sort ≡ s → is h s p i ≡ true
 is_from h s p i a b c =
     and_from (eqb p h.place) (eqb i.number h.number && same_bytes (code i.sort) (code s)) (eq-eqb p h.place a)
-    (and_from (eqb i.number h.number) (same_bytes (code i.sort) (code s)) (eq-eqb i.number h.number b) (subst (λ y. same_bytes (code i.sort) (code y) ≡ true) c (same_bytes (code i.sort))))
+    (and_from (eqb i.number h.number) (same_bytes (code i.sort) (code s)) (eq-eqb i.number h.number b) (subst (λ y. same_bytes (code i.sort) (code y) ≡ true) c (same_bytes_lem (code i.sort))))
 
 -- where one is counted a node stands
 tally_names : (h : Handle) (s : Sort) (ts : Nodes) → 0 < tally (marks h s) ts → Names h s ts

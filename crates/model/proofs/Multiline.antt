@@ -1,15 +1,15 @@
 -- ensure_multiline keeps the document, its comments and its value. Assumes nothing.
-use Rattle.std.proofs.Common.{◌≡◌, ℕ, zero, suc, ◌+◌, Bool, true, false, cond, not, ◌&&◌, ◌||◌, List, [], ◌∷◌, ◌++◌, sym, refl, ap, ◌∙◌, subst, true≢false, append_assoc, append-nil}
+use Rattle.std.proofs.Common.{◌≡◌, ℕ, Bool, true, false, List, [], ◌∷◌, ◌++◌, sym, refl, ap, ◌∙◌, subst}
 use mathlib.Core.Bool.{false≢true}
 use Rattle.std.proofs.lemmas.Bool.{cond_both}
 use Rattle.grammar.specs.Classes.{Blank}
 use Rattle.grammar.specs.Grammar.{All}
-use Rattle.grammar.specs.Layout.{Comment, Line, Block, Mark, Open, Close, Comma, Colon, Name, Label, Parts, nil, part}
+use Rattle.grammar.specs.Layout.{Open, Close, Comma, Colon, Name}
 use Rattle.grammar.specs.Pieces.{whitespace, newline, Pieces, end as no_pieces, leaf, box, nodes}
 use Rattle.forest.specs.Forest.{end, node, append}
-use Rattle.model.specs.Nodes.{Handle, handle, Sort, root, within, single, Own, Nodes, Gap, blank, break, remark, Class, gap, mark, value, class, pieces, label_of, parts, parts_at}
-use Rattle.model.specs.Edits.{Supply, skip, sown, shuts, Piece, opens, closes, space, cut, stuff, piece_of, begun, loose as dropped?, unspaced, Lines, unless_empty, part_start, lead, leads, spread_out}
-use Rattle.model.specs.Fits.{Owner, top, of, Pos, start, items, next, named, only, shut, State, here, dead, loose, spaced, gapped, marked, valued, step, run, begin, Ends, Role, title, role, takes, Taken, Fits, Holds, Whole, comments, remarks_of}
+use Rattle.model.specs.Nodes.{handle, Own, Nodes, Gap, blank, break, remark, Class, gap, mark, value, class, pieces, label_of, parts, parts_at}
+use Rattle.model.specs.Edits.{Supply, skip, sown, shuts, Piece, opens, closes, space, cut, stuff, piece_of, begun, loose as dropped?, unspaced, Lines, unless_empty, part_start, lead, spread_out}
+use Rattle.model.specs.Fits.{Owner, Pos, start, items, next, named, only, shut, State, here, dead, loose, spaced, step, run, begin, Ends, title, takes, Taken, Fits, Whole, comments, remarks_of}
 use Rattle.model.proofs.Prints.{no_dead}
 use Rattle.model.proofs.Machine.{Untitled}
 use Rattle.model.proofs.Removes.{Kept, each_kept, kept_taken, kept_fits, sort_untitled}

@@ -1,10 +1,9 @@
 -- What edits of a child list do to the value with its handles. Assumes nothing.
-use Rattle.std.proofs.Common.{◌≡◌, ℕ, Bool, true, false, cond, not, ◌&&◌, eqb, ◌⊎◌, Some, None, Option, sym, refl, ap, ◌∙◌, subst, inl, inr, arith}
-use mathlib.Core.Bool.{false≢true}
+use Rattle.std.proofs.Common.{◌≡◌, ℕ, Bool, true, false, cond, not, ◌&&◌, eqb, Some, None, Option, sym, refl, ap, ◌∙◌, inl, inr, arith}
 use Rattle.std.proofs.lemmas.Bool.{eqb-true, cond_both, cond-true, cond-false}
-use Rattle.grammar.specs.Layout.{Comment, Mark, Open, Close, Comma, Colon, Name, Label, Parts, nil, part}
+use Rattle.grammar.specs.Layout.{Open, Close, Comma, Colon, Name, Parts, part}
 use Rattle.forest.specs.Forest.{end, node}
-use Rattle.model.specs.Nodes.{Handle, handle, Sort, Own, Nodes, Gap, blank, break, remark, Class, gap, mark, value, class, pieces, label_of, parts, parts_at}
+use Rattle.model.specs.Nodes.{Handle, handle, Own, Nodes, blank, break, remark, Class, gap, mark, value, class, pieces, label_of, parts, parts_at}
 use Rattle.model.specs.Asks.{is_comma}
 use Rattle.model.specs.Edits.{onto, local_from, local, back_at, back_line, un_comma, past_at, past_comma, line_ends, solid_next, rest_at, drop_line, empty, tight_at, tight, tidy, closed, removal}
 use Rattle.model.specs.Changes.{At, lost}

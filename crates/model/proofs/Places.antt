@@ -1,5 +1,5 @@
 -- Places and numbers are handed out once: so it is after load, and so it stays. Assumes nothing.
-use Rattle.std.proofs.Common.{◌≡◌, ℕ, zero, suc, ◌+◌, ◌-◌, ◌<◌, ◌≤◌, Bool, true, false, cond, eqb, ltb, List, [], ◌∷◌, ◌++◌, length, drop, refl, ap, ◌∙◌, subst, inl, inr, arith, length-drop}
+use Rattle.std.proofs.Common.{◌≡◌, ℕ, zero, suc, ◌+◌, ◌-◌, ◌<◌, ◌≤◌, Bool, true, false, cond, eqb, ltb, List, [], ◌∷◌, length, drop, refl, ap, ◌∙◌, subst, inl, inr, arith, length-drop}
 use Rattle.std.proofs.lemmas.Bool.{cond_both, cond-true, cond-false, cases_lt, eqb-true, eqb-false, lt-ltb, le-ltb, ltb-false}
 use Rattle.grammar.specs.Pieces.{Pieces, end as no_pieces, leaf, box, nodes, stored}
 use Rattle.grammar.specs.Answer.{Answer, Read, BadText as Bad, TooDeep as Deep, read}

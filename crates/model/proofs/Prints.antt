@@ -1,14 +1,14 @@
 -- A document prints a sentence, whose layout is the tree's own. Assumes nothing.
-use Rattle.std.proofs.Common.{◌≡◌, ℕ, Bool, true, false, List, [], ◌∷◌, ◌++◌, sym, refl, ap, ◌∙◌, subst, append_assoc, append-nil}
+use Rattle.std.proofs.Common.{◌≡◌, ℕ, Bool, true, false, List, [], ◌∷◌, ◌++◌, sym, refl, ap, ◌∙◌, subst, append-nil}
 use mathlib.Core.Bool.{false≢true}
 use Rattle.grammar.specs.Classes.{Blank}
-use Rattle.grammar.specs.Layout.{Comment, Line, Block, Mark, Open, Close, Comma, Colon, Name, Label, Null, Boolean, Numeral, Text, Array, Object, Member, Layout, stop, note, mark as tick, item}
-use Rattle.grammar.specs.Grammar.{All, Many, StringChar, Number, quoted, LineComment, Between, after, Trivia, Frame, brackets, braces, closer, shut as shutting, Value, null as a-null, truth, falsity, numeral, text, array as an-array, object as an-object, Item, element as an-element, member as a-member, Items, close, last, more, Sentence, nothing, something}
+use Rattle.grammar.specs.Layout.{Comment, Line, Block, Open, Close, Comma, Colon, Name, Label, Null, Boolean, Numeral, Text, Array, Object, Member, Layout, stop, mark as tick, item}
+use Rattle.grammar.specs.Grammar.{All, Many, StringChar, quoted, LineComment, Between, after, Trivia, Frame, brackets, braces, closer, shut as shutting, Value, null as a-null, truth, falsity, numeral, text, array as an-array, object as an-object, Item, element as an-element, member as a-member, Items, close, last, more, Sentence, nothing, something}
 use Rattle.grammar.specs.Pieces.{Token, open_array, close_array, open_object, close_object, comma, colon, Break, Leaf, null, boolean, number, string, name, token, whitespace, newline, comment, Box, array, object, property, Pieces, end as no_pieces, leaf, box, token_byte, boolean_bytes, inner, name_of, print, lay}
 use Rattle.grammar.proofs.Sentences.{inner_quoted}
 use Rattle.forest.specs.Forest.{end, node}
-use Rattle.model.specs.Nodes.{Sort, root, within, single, Own, Nodes, Gap, blank, break, remark, Class, gap, mark, value, class, piece, pieces}
-use Rattle.model.specs.Fits.{Owner, top, of, Pos, start, items, next, named, only, shut, State, here, dead, spaced, gapped, marked, valued, step, run, begin, Ends, Role, element, member, title, sign, role, signs, takes, Taken, Fits, Quoted, Remarked, Spelled, IsEnd, Holds, Whole, Document}
+use Rattle.model.specs.Nodes.{Sort, root, within, single, Nodes, blank, break, remark, mark, value, class, piece, pieces}
+use Rattle.model.specs.Fits.{Owner, top, of, Pos, start, items, next, named, only, shut, here, dead, spaced, gapped, step, run, Ends, element, member, title, role, signs, takes, Taken, Fits, Quoted, Remarked, Spelled, Holds, Whole, Document}
 use Rattle.model.proofs.Fronts.{Front, done, space_on, break_on, block_on, line_on, stopped, stopped_open, lexeme, idle}
 
 -- nothing ends well once the machine is dead

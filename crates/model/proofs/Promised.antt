@@ -8,7 +8,7 @@ use Rattle.grammar.specs.Answer.{Read, Judged, good}
 use Rattle.grammar.proofs.Whole.{right}
 use Rattle.forest.specs.Forest.{end, node, count}
 use Rattle.refusal.specs.declared.Refusal.TheVariants.{NotHere, Gone, BadMemory, Short}
-use Rattle.model.specs.Nodes.{Handle, handle, same, Sort, root, within, single, Nodes, Class, gap, mark, value, class, pieces, parts, parts_at, label_of, loaded}
+use Rattle.model.specs.Nodes.{Handle, handle, same, Sort, root, within, single, Nodes, Class, gap, mark, value, class, pieces, parts, parts_at, label_of}
 use Rattle.model.specs.Asks.{Spot, tree, named, numbered_so, then, is_some, sort_of, is_root, bracketed, root_handle, at, at_path, way_to, path_to, path, or_else, inside, behind}
 use Rattle.model.specs.Fits.{bare}
 use Rattle.model.specs.Written.{Value}

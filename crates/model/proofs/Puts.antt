@@ -1,15 +1,14 @@
 -- A value put in the place of another, in any container: a property keeps its name. Assumes nothing.
-use Rattle.std.proofs.Common.{◌≡◌, ℕ, zero, suc, ◌+◌, ◌<◌, ◌≤◌, Bool, true, false, cond, ◌&&◌, eqb, ◌⊎◌, List, [], ◌∷◌, ◌++◌, Some, None, Option, sym, refl, ap, ◌∙◌, subst, inl, inr, true≢false, arith}
-use mathlib.Core.Bool.{false≢true}
-use Rattle.std.proofs.lemmas.Bool.{eqb-true, eq-eqb, cond_both, cond-true, cond-false}
+use Rattle.std.proofs.Common.{◌≡◌, ℕ, zero, suc, ◌≤◌, false, cond, eqb, List, [], ◌∷◌, ◌++◌, Some, Option, sym, refl, ap, ◌∙◌, subst, inl, inr, true≢false, arith}
+use Rattle.std.proofs.lemmas.Bool.{eqb-true, eq-eqb, cond_both}
 use Rattle.grammar.specs.Layout.{Label, Member, Parts, nil, part}
 use Rattle.grammar.specs.Pieces.{Box, array, object, property, Pieces, name_of}
-use Rattle.forest.specs.Forest.{end, node, one, count, append}
+use Rattle.forest.specs.Forest.{end, node, count, append}
 use Rattle.forest.proofs.Frames.{one_eq}
-use Rattle.model.specs.Nodes.{Handle, handle, Sort, root, within, single, Own, Nodes, Gap, Class, gap, mark, value, class, piece, pieces, parts, label_of}
+use Rattle.model.specs.Nodes.{Handle, handle, Sort, root, within, single, Own, Nodes, Class, gap, mark, value, class, piece, pieces, parts, label_of}
 use Rattle.model.specs.Asks.{is_value, value_in, at}
 use Rattle.model.specs.Edits.{onto, local_from, local, exchanged, exchange}
-use Rattle.model.specs.Fits.{Owner, of, here, start, step, run, Ends, Fits, Holds, Whole, Document, bare}
+use Rattle.model.specs.Fits.{of, here, start, step, run, Ends, Fits, Holds, Whole, bare}
 use Rattle.model.specs.Changes.{At, changed_under, swapped, IsContainer, IsElement}
 use Rattle.model.specs.Account.{or_nobody, handled, with_handles, change, instead, put}
 use Rattle.model.specs.Accounted.{counted, Among, first, later, Below, child, deeper, along, Lies, on_top, inside, Alone}
@@ -19,7 +18,6 @@ use Rattle.model.proofs.Exchanges.{exchange_parts}
 use Rattle.model.proofs.Kept.{at_inside, parts_under}
 use Rattle.model.proofs.Spots.{holds_at}
 use Rattle.model.proofs.Removes.{some_none}
-use Rattle.model.proofs.Commas.{class_is_value}
 use Rattle.model.proofs.Ways.{off}
 use Rattle.model.proofs.Walks.{among_count, below_count}
 

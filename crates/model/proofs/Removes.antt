@@ -2,13 +2,13 @@
 use Rattle.std.proofs.Common.{◌≡◌, ℕ, Bool, true, false, cond, not, ◌&&◌, eqb, ◌⊎◌, Some, None, Option, sym, refl, ap, ◌∙◌, subst, inl, inr, arith}
 use mathlib.Core.Bool.{false≢true}
 use Rattle.std.proofs.lemmas.Bool.{eqb-true, cond_both}
-use Rattle.grammar.specs.Layout.{Comment, Line, Block, Mark, Open, Close, Comma, Colon, Name}
-use Rattle.grammar.specs.Pieces.{Token, Leaf, Box, array, object, property}
+use Rattle.grammar.specs.Layout.{Line, Block, Mark, Open, Close, Comma, Colon, Name}
+use Rattle.grammar.specs.Pieces.{Token, Leaf}
 use Rattle.forest.specs.Forest.{end, node}
-use Rattle.model.specs.Nodes.{Sort, root, within, single, Own, Nodes, Gap, blank, break, remark, Class, gap, mark, value, class, leaf_class}
-use Rattle.model.specs.Asks.{is_comma, is_gap}
+use Rattle.model.specs.Nodes.{Sort, root, within, single, Own, Nodes, Gap, blank, break, remark, Class, gap, mark, value, class}
+use Rattle.model.specs.Asks.{is_comma}
 use Rattle.model.specs.Edits.{onto, Local, local_from, local, back_at, back_line, un_comma, past_at, past_comma, line_ends, solid_next, rest_at, drop_line, bare_at, empty, tight_at, tight, tidy, closed, removal}
-use Rattle.model.specs.Fits.{Owner, top, of, Pos, start, items, next, named, only, shut, State, here, dead, spaced, gapped, marked, valued, step, run, begin, Ends, Role, title, role, takes, Taken, Fits, Holds, Whole}
+use Rattle.model.specs.Fits.{Owner, top, of, Pos, start, items, next, named, only, shut, State, here, spaced, gapped, marked, step, run, begin, Ends, title, role, takes, Taken, Fits, Holds, Whole}
 use Rattle.model.specs.Changes.{At, Each}
 use Rattle.model.proofs.Prints.{no_dead}
 use Rattle.model.proofs.Machine.{back, run_onto, gap_goes, break_goes, blank_goes, blank_plain, mark_goes, value_goes, end_goes, dead_here, Unnamed, Untitled, unnamed_step, value_inv, gap_inv, gap_same, start_inv, Opened, by_comma, by_open, items_mark, items_value, begin_pos, begin_unnamed}

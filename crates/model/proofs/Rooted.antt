@@ -1,13 +1,13 @@
 -- A value put into a root that has none: it is the document's value, and all comments stay. Assumes nothing.
-use Rattle.std.proofs.Common.{◌≡◌, ℕ, ◌+◌, Bool, true, false, cond, List, [], ◌∷◌, ◌++◌, sym, refl, ap, ◌∙◌, subst, append_assoc, append-nil}
+use Rattle.std.proofs.Common.{◌≡◌, ℕ, ◌+◌, true, [], ◌++◌, sym, refl, ap, ◌∙◌, append_assoc, append-nil}
 use mathlib.Core.Bool.{false≢true}
 use Rattle.std.proofs.lemmas.Bool.{cond_both}
-use Rattle.grammar.specs.Layout.{Comment, Parts, nil, part}
+use Rattle.grammar.specs.Layout.{Parts, nil, part}
 use Rattle.grammar.specs.Pieces.{Break, newline, Pieces, end as no_pieces, leaf, nodes}
 use Rattle.forest.specs.Forest.{end, node, append}
-use Rattle.model.specs.Nodes.{Handle, handle, Own, Nodes, Gap, blank, break, remark, Class, gap, mark, value, class, pieces, parts, parts_at, label_of}
+use Rattle.model.specs.Nodes.{Handle, handle, Own, Nodes, blank, break, remark, Class, gap, mark, value, class, pieces, parts, parts_at, label_of}
 use Rattle.model.specs.Asks.{is_break}
-use Rattle.model.specs.Edits.{Supply, skip, sown, onto, Cut, cut_at, root_cut, is_remark, break_before, break_behind, root_put}
+use Rattle.model.specs.Edits.{Supply, skip, sown, onto, cut_at, root_cut, is_remark, break_before, break_behind, root_put}
 use Rattle.model.specs.Fits.{comments, remarks_of}
 use Rattle.model.specs.Changes.{Each, Trivial, chain, notes_before}
 use Rattle.model.proofs.Removes.{each_onto}

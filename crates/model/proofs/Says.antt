@@ -1,15 +1,15 @@
 -- What a written value says, and what becomes of comments where it takes another's place. Assumes nothing.
-use Rattle.std.proofs.Common.{◌≡◌, ℕ, suc, Bool, true, false, cond, ◌⊎◌, List, [], ◌∷◌, ◌++◌, sym, refl, ap, ◌∙◌, subst, inl, inr, append_assoc, append-nil}
+use Rattle.std.proofs.Common.{◌≡◌, ℕ, suc, Bool, true, false, ◌⊎◌, List, [], ◌++◌, sym, refl, ap, ◌∙◌, subst, inl, inr, append_assoc}
 use Rattle.std.proofs.lemmas.Bool.{cond_both}
 use Rattle.grammar.specs.Layout.{Comment, Label, Null, Boolean, Numeral, Text, Array, Object, Member, Parts, nil, part}
-use Rattle.grammar.specs.Pieces.{Token, close_array, close_object, comma, Leaf, null, boolean, number, string, name, token, whitespace, newline, comment, Box, array, object, property, Pieces, end as no_pieces, leaf, box, join, nodes}
+use Rattle.grammar.specs.Pieces.{close_array, close_object, comma, token, Pieces, end as no_pieces, leaf, box, join, nodes}
 use Rattle.grammar.proofs.Sentences.{inner_quoted}
 use Rattle.forest.specs.Forest.{end, node, append}
-use Rattle.model.specs.Nodes.{Handle, handle, Sort, Own, Nodes, Gap, blank, break, remark, Class, gap, mark, value, class, leaf_class, leaf_label, box_label, pieces, parts, parts_at}
+use Rattle.model.specs.Nodes.{Handle, Own, Nodes, Class, gap, mark, value, class, leaf_class, leaf_label, box_label, pieces, parts, parts_at}
 use Rattle.model.specs.Edits.{Supply, skip, sown, onto, local, exchanged}
 use Rattle.model.specs.Fits.{comments, remarks_of, bare}
-use Rattle.model.specs.Written.{Value, spelled, Style, is_nil, any_full, spread, inner_indent, ahead, behind, shut as shutting, framed, members, written}
-use Rattle.model.specs.Sources.{IsNil, IsOne, Inside, free, keyed, LabelFits, Shaped}
+use Rattle.model.specs.Written.{Value, spelled, Style, is_nil, spread, inner_indent, ahead, behind, shut as shutting, framed, members, written}
+use Rattle.model.specs.Sources.{IsNil, Inside, free, keyed, LabelFits, Shaped}
 use Rattle.model.specs.Changes.{At, Around, notes_before}
 use Rattle.model.proofs.Removes.{local_ways, at_here}
 use Rattle.model.proofs.Writes.{shaped_spelled}

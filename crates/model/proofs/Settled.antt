@@ -1,29 +1,27 @@
 -- After each edit that writes or removes a value, value and comments are the account's. Assumes nothing.
-use Rattle.std.proofs.Common.{◌≡◌, ℕ, zero, suc, ◌+◌, ◌<◌, ◌≤◌, Bool, true, false, cond, not, ◌&&◌, eqb, ◌⊎◌, List, [], ◌∷◌, ◌++◌, Some, None, Option, sym, refl, ap, ◌∙◌, subst, inl, inr, true≢false, append-nil, arith}
+use Rattle.std.proofs.Common.{◌≡◌, ℕ, ◌≤◌, true, false, not, ◌&&◌, eqb, List, [], ◌∷◌, ◌++◌, Some, None, Option, sym, refl, ap, ◌∙◌, subst, inl, inr, append-nil, arith}
 use mathlib.Core.Bool.{false≢true}
 use Rattle.std.proofs.lemmas.Bool.{eqb-true, cond_both, and_parts, not-true}
-use Rattle.grammar.specs.Layout.{Comment, Label, Parts, nil, part}
-use Rattle.grammar.specs.Pieces.{Break, Box, array, object, property, layout}
-use Rattle.forest.specs.Forest.{end, node, one, count}
-use Rattle.forest.proofs.Frames.{one_eq}
+use Rattle.grammar.specs.Layout.{Parts, nil, part}
+use Rattle.grammar.specs.Pieces.{Break, array, object, property, layout}
+use Rattle.forest.specs.Forest.{end, node, count}
 use Rattle.model.specs.Nodes.{Handle, handle, Sort, root, within, single, Own, Nodes, Class, gap, mark, value, class, pieces, parts, parts_at, label_of}
-use Rattle.model.specs.Asks.{Frame, Spot, named, sort_of, spot_at, then, newline_kind, uses_trailing_commas, is_value, is_property, value_in, at, at_path, way_to, path_to, path}
+use Rattle.model.specs.Asks.{Frame, Spot, named, sort_of, spot_at, then, newline_kind, uses_trailing_commas, is_value, is_property, value_in, at, at_path, path_to}
 use Rattle.model.specs.Edits.{Supply, sown, remove, exchange, root_cut, root_put}
 use Rattle.model.specs.Written.{Value, Style, spelled, written, break_of}
-use Rattle.model.specs.Indents.{Indents, indents}
+use Rattle.model.specs.Indents.{indents}
 use Rattle.model.specs.Sources.{IsNil, IsOne}
 use Rattle.model.specs.Laws.{Writable}
-use Rattle.model.specs.Fits.{Owner, top, of, Role, title, element, role, takes, Taken, Fits, Holds, Whole, Document, comments, bare}
-use Rattle.model.specs.Changes.{At, Each, Trivial, Placed, IsBracketed, IsContainer, IsItem, IsElement, Showable}
+use Rattle.model.specs.Fits.{Owner, top, of, role, takes, Taken, Fits, Holds, Document, comments, bare}
+use Rattle.model.specs.Changes.{At, Each, Trivial, Placed, IsBracketed, IsContainer, IsElement, Showable}
 use Rattle.model.specs.Account.{with_handles, deleted, put, less, lost_by_removal, lost_inside, lost_all}
 use Rattle.model.specs.Accounted.{counted, Among, first, later, Below, child, deeper, along, Lies, on_top, inside, Alone, Found, Fresh, RemovesSo, ReplacesSo, SetsSo, AccountLaws}
 use Rattle.refusal.specs.declared.Refusal.TheVariants.{Gone, NotHere}
-use Rattle.model.specs.State.{State, Outcome, Refused, Given, and_then, present, Plan, Remove, Replace, SetValue, planned, remove_plan, replace_plan, value_plan, value_of, root_plan, styled}
+use Rattle.model.specs.State.{State, Refused, Given, and_then, present, Remove, Replace, SetValue, planned, remove_plan, replace_plan, value_plan, value_of, root_plan, styled}
 use Rattle.model.proofs.Commas.{class_is_value as value_is}
 use Rattle.model.proofs.Edited.{at_count}
 use Rattle.model.proofs.Kept.{at_inside, remove_value}
 use Rattle.model.proofs.Says.{written_says, written_quiet}
-use Rattle.model.proofs.Writes.{shaped_spelled}
 use Rattle.model.proofs.Spots.{item_of, element_of, container_of, bracketed_of, root_bracketed, root_container, holds_at, parent_box, Parent, at_root, at_node, Spotted, the_root, a_node, spot_found}
 use Rattle.model.proofs.Steps.{no_title, sort_element, taken_element, none_trivial}
 use Rattle.model.proofs.Rooted.{root_says}

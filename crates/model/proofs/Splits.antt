@@ -1,7 +1,7 @@
 -- A walk along a path splits a text's comments in three, and none is forgotten. Assumes nothing.
 use Rattle.std.proofs.Common.{◌≡◌, ℕ, zero, suc, Bool, true, false, cond, List, [], ◌∷◌, ◌++◌, length, take, drop, Some, None, Option, sym, refl, ap, ◌∙◌, append_assoc, append-nil, arith}
-use Rattle.grammar.specs.Layout.{Comment, Mark, Open, Close, Comma, Colon, Name, Layout, stop, note, mark, item, notes}
-use Rattle.model.specs.Account.{breaks, comma_mark, after_comma, gap_notes, line_notes, past_line, Split, followed, Rule, walk, remove_here, replace_here, less}
+use Rattle.grammar.specs.Layout.{Comment, Open, Close, Comma, Colon, Name, Layout, stop, note, mark, item, notes}
+use Rattle.model.specs.Account.{breaks, after_comma, gap_notes, line_notes, past_line, Split, followed, Rule, walk, remove_here, replace_here, less}
 
 -- the front of a list, and what is behind it
 take_front : (a b : List Comment) → take (length a) (a ++ b) ≡ a

@@ -1,12 +1,11 @@
 -- Where a node is found: its data and children, its parent, and that there is no other. Assumes nothing.
-use Rattle.std.proofs.Common.{◌≡◌, ℕ, ◌+◌, ◌<◌, ◌≤◌, Bool, true, false, cond, eqb, ltb, ◌⊎◌, List, [], ◌∷◌, Some, None, Option, sym, refl, ap, ◌∙◌, subst, inl, inr, true≢false, arith}
-use mathlib.Core.Bool.{false≢true}
+use Rattle.std.proofs.Common.{◌≡◌, ℕ, false, cond, eqb, ltb, ◌⊎◌, List, [], ◌∷◌, Some, None, sym, refl, ap, ◌∙◌, subst, inl, inr, arith}
 use Rattle.std.proofs.lemmas.Bool.{cond_both, eqb-true}
-use Rattle.grammar.specs.Pieces.{Box, array, object, property}
+use Rattle.grammar.specs.Pieces.{Box}
 use Rattle.forest.specs.Forest.{end, node, count}
 use Rattle.model.specs.Nodes.{Sort, root, within, single, Own, Nodes, value, class}
-use Rattle.model.specs.Asks.{Frame, Spot, spot_in, spot_at, tree, is_property}
-use Rattle.model.specs.Fits.{Owner, of, title, element, role, takes, Holds, Whole}
+use Rattle.model.specs.Asks.{Frame, Spot, spot_in, spot_at}
+use Rattle.model.specs.Fits.{of, title, element, role, takes, Holds, Whole}
 use Rattle.model.specs.Changes.{At, Placed, IsBracketed, IsContainer, IsItem, IsElement}
 use Rattle.model.proofs.Edited.{at_count, at_once}
 use Rattle.model.proofs.Removes.{some_none}

@@ -1,25 +1,22 @@
 -- Every edit, accepted or refused, leaves a document. Assumes nothing.
-use Rattle.std.proofs.Common.{◌≡◌, ℕ, ◌+◌, Bool, true, false, cond, not, ◌&&◌, ◌||◌, eqb, ltb, ◌⊎◌, List, [], ◌∷◌, ◌++◌, length, Some, None, Option, sym, refl, ap, ◌∙◌, subst, inl, inr, true≢false, arith}
+use Rattle.std.proofs.Common.{◌≡◌, ℕ, ◌+◌, Bool, true, false, cond, not, ◌&&◌, ◌||◌, eqb, ltb, List, [], ◌∷◌, length, Some, None, Option, sym, refl, ap, ◌∙◌, subst, inl, inr, true≢false, arith}
 use mathlib.Core.Bool.{false≢true}
-use Rattle.std.proofs.lemmas.Bool.{cond_both, and_parts, or_cases, not-true}
-use Rattle.grammar.specs.Classes.{Blank}
-use Rattle.grammar.specs.Grammar.{All}
-use Rattle.grammar.specs.Layout.{Mark}
-use Rattle.grammar.specs.Pieces.{Leaf, null, boolean, number, string, name, token, whitespace, newline, comment, Break, Box, array, object, property, Pieces, nodes, stored}
+use Rattle.std.proofs.lemmas.Bool.{cond_both, and_parts, not-true}
+use Rattle.grammar.specs.Pieces.{Leaf, null, boolean, number, string, name, token, whitespace, newline, comment, Break, Box, array, object, property, nodes, stored}
 use Rattle.forest.specs.Forest.{end, node, count}
-use Rattle.model.specs.Nodes.{Handle, handle, Sort, root, within, single, Own, Nodes, Gap, Class, gap, mark, value, class}
-use Rattle.model.specs.Asks.{Frame, Spot, spot_at, numbered_so, named, then, sort_of, is_property, is_root, bracketed, is_value, is_break, any, value_in, living, newline_kind, uses_trailing_commas}
+use Rattle.model.specs.Nodes.{Handle, handle, Sort, root, within, single, Own, Nodes, Gap, gap, value, class}
+use Rattle.model.specs.Asks.{Frame, Spot, spot_at, numbered_so, then, sort_of, is_property, is_root, bracketed, is_value, is_break, any, value_in, living, newline_kind, uses_trailing_commas}
 use Rattle.model.specs.Indents.{Indents, root_indents, indents}
-use Rattle.model.specs.Written.{Value, Style, written, break_of}
-use Rattle.model.specs.Edits.{Supply, sown, remove, exchange, under, untrailed, lined, trailed}
+use Rattle.model.specs.Written.{Value, written, break_of}
+use Rattle.model.specs.Edits.{Supply, sown, exchange, lined}
 use Rattle.refusal.specs.declared.Refusal.{Refusal}
 use Rattle.refusal.specs.declared.Refusal.TheVariants.{BadMemory, Gone, NotHere, TooDeep, NoNode, NoText, Worn}
-use Rattle.model.specs.State.{State, Outcome, Refused, Given, and_then, unless, present, Plan, Edit, Remove, Replace, SetValue, SetRoot, Clear, SetTrailingCommas, EnsureMultiline, Commas, Never, IfMultiline, Work, bad_memory, remove_plan, parent_spot, styled, exchanging, replace_plan, value_plan, value_of, root_plan, commas_plan, lines_of, multiline_plan, spotted, planned, supply_of, finished, worn, judged, accepted, after_outcome, after}
-use Rattle.model.specs.Fits.{Owner, top, of, Role, title, element, sign, role, takes, Taken, Fits, Holds, Whole, Document}
-use Rattle.model.specs.Changes.{At, Each, Trivial, Placed, IsBracketed, IsContainer, IsItem, IsElement, Blanked, Showable, Showing}
-use Rattle.model.proofs.Commas.{class_is_value, Commaed, lined_commas}
-use Rattle.model.proofs.Edited.{at_count, at_once}
-use Rattle.model.proofs.Kept.{at_inside, whole_at, remove_document, exchange_kept, root_document, never_document, lines_document, multiline_document}
+use Rattle.model.specs.State.{State, Outcome, Refused, Given, and_then, unless, present, Plan, Edit, Remove, Replace, SetValue, SetRoot, Clear, SetTrailingCommas, EnsureMultiline, Commas, Never, IfMultiline, Work, bad_memory, remove_plan, parent_spot, styled, replace_plan, value_plan, value_of, root_plan, commas_plan, multiline_plan, spotted, planned, supply_of, worn, judged, accepted, after_outcome, after}
+use Rattle.model.specs.Fits.{Owner, top, of, Role, title, element, role, takes, Taken, Fits, Holds, Document}
+use Rattle.model.specs.Changes.{At, Each, Trivial, Placed, IsBracketed, IsContainer, IsItem, IsElement, Showable, Showing}
+use Rattle.model.proofs.Commas.{class_is_value, Commaed}
+use Rattle.model.proofs.Edited.{at_count}
+use Rattle.model.proofs.Kept.{at_inside, remove_document, exchange_kept, root_document, never_document, lines_document, multiline_document}
 use Rattle.model.proofs.Loaded.{Stands}
 use Rattle.model.proofs.Removes.{some_none}
 use Rattle.model.proofs.Writes.{written_stands, all_append}

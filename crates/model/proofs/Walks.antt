@@ -1,14 +1,14 @@
 -- The comments of the whole document after an edit at a node are those that the walk along its path says stay. Assumes nothing.
-use Rattle.std.proofs.Common.{◌≡◌, ℕ, zero, suc, ◌+◌, ◌<◌, ◌≤◌, Bool, true, false, cond, eqb, List, [], ◌∷◌, ◌++◌, sym, refl, ap, ◌∙◌, subst, append_assoc, append-nil, arith}
-use Rattle.std.proofs.lemmas.Bool.{eqb-true, eqb-false, eq-eqb, cond-true, cond-false}
-use Rattle.grammar.specs.Layout.{Comment, Label, Layout, stop, note, mark as tick, item, notes}
+use Rattle.std.proofs.Common.{◌≡◌, ℕ, ◌<◌, Bool, true, false, cond, eqb, List, [], ◌∷◌, ◌++◌, sym, refl, ap, ◌∙◌, append_assoc, append-nil, arith}
+use Rattle.std.proofs.lemmas.Bool.{eqb-false, eq-eqb, cond-true, cond-false}
+use Rattle.grammar.specs.Layout.{Comment, Label, Layout, stop, notes}
 use Rattle.grammar.specs.Pieces.{Leaf, null, boolean, number, string, name, token, whitespace, newline, comment, Box, Pieces, lay, layout, label_of as piece_label}
-use Rattle.forest.specs.Forest.{end, node, one, count, append}
+use Rattle.forest.specs.Forest.{end, node, count, append}
 use Rattle.forest.specs.Edits.{edited}
 use Rattle.forest.proofs.Edited.{edited_here, edited_below, edited_rest}
 use Rattle.forest.proofs.Frames.{one_eq}
-use Rattle.model.specs.Nodes.{Handle, handle, Sort, root, within, single, Own, Nodes, Gap, blank, break, remark, Class, gap, mark, value, class, leaf_label, piece, pieces}
-use Rattle.model.specs.Edits.{onto, Local, local_from, local, under, back_at, back_line, removal, exchanged, remove, exchange}
+use Rattle.model.specs.Nodes.{Handle, Sort, root, within, single, Own, Nodes, blank, break, remark, Class, gap, mark, value, class, leaf_label, piece, pieces}
+use Rattle.model.specs.Edits.{Local, local_from, local, under, back_at, back_line, removal, exchanged, remove, exchange}
 use Rattle.model.specs.Fits.{IsEnd, Holds, Whole, comments, remarks_of}
 use Rattle.model.specs.Account.{followed, after_comma, Split, Rule, walk, remove_here, replace_here, less, lost_by_removal, lost_inside}
 use Rattle.model.specs.Changes.{notes_before}

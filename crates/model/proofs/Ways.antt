@@ -1,10 +1,9 @@
 -- Values by place and by path. Assumes nothing.
-use Rattle.std.proofs.Common.{◌≡◌, ℕ, zero, suc, ◌+◌, ◌<◌, ◌≤◌, Bool, true, false, cond, eqb, List, [], ◌∷◌, ◌++◌, sym, refl, ap, ◌∙◌, subst, arith}
-use Rattle.std.proofs.lemmas.Bool.{eqb-true, eq-eqb, cond_both, cond-true, cond-false, cases_Bool}
+use Rattle.std.proofs.Common.{◌≡◌, ℕ, ◌+◌, false, cond, eqb, List, [], ◌∷◌, sym, refl, ap, ◌∙◌, arith}
+use Rattle.std.proofs.lemmas.Bool.{eq-eqb, cond_both, cond-true, cond-false}
 use Rattle.grammar.specs.Layout.{Label, Parts, nil, part}
 use Rattle.forest.specs.Forest.{end, node, one, count}
-use Rattle.forest.proofs.Frames.{one_eq}
-use Rattle.model.specs.Nodes.{Handle, handle, Sort, Own, Nodes, Gap, Class, gap, mark, value, class, pieces, parts, parts_at, label_of}
+use Rattle.model.specs.Nodes.{Handle, handle, Own, Nodes, Class, gap, mark, value, class, pieces, parts, parts_at, label_of}
 use Rattle.model.specs.Changes.{changed, changed_under, lost, chain, swapped}
 use Rattle.model.specs.Account.{change, others, instead, deleted, put}
 use Rattle.model.specs.Accounted.{counted, Among, first, later, Below, child, deeper, along, Lies, on_top, inside, Alone}

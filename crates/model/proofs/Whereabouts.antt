@@ -3,7 +3,7 @@ use Rattle.std.proofs.Common.{◌≡◌, ℕ, zero, suc, ◌+◌, ◌-◌, ◌<�
 use Rattle.std.proofs.lemmas.Bool.{eqb-true, eq-eqb, cond_both, and_parts, ltb-true, ltb-false}
 use Rattle.grammar.specs.Layout.{Label, Null, Boolean, Numeral, Text, Array, Object, Member, Layout, stop, note, mark as token, item, Parts, nil, part, raised, levels, meaning}
 use Rattle.grammar.specs.Pieces.{null, boolean, number, string, name, token as sign, whitespace, newline, comment, array, object, property}
-use Rattle.forest.specs.Forest.{end, node, one, count}
+use Rattle.forest.specs.Forest.{end, node, count}
 use Rattle.forest.proofs.Frames.{one_eq}
 use Rattle.model.specs.Nodes.{Handle, handle, same, Sort, root, within, single, Own, Nodes, Class, gap, mark, value, class, pieces, parts, parts_at, label_of}
 use Rattle.model.specs.Asks.{Frame, Spot, spot_in, bracketed, sort_of, at, at_path, Way, inside, behind, way_to, from_root, path_to, path, or_else, value_in, is_value}

@@ -1,16 +1,13 @@
 -- A written value stands wherever a value may. Assumes nothing.
-use Rattle.std.proofs.Common.{◌≡◌, ℕ, zero, suc, ◌+◌, Bool, true, false, cond, not, List, [], ◌∷◌, ◌++◌, sym, refl, ap, ◌∙◌, subst, true≢false, append_assoc, append-nil}
-use mathlib.Core.Bool.{false≢true}
+use Rattle.std.proofs.Common.{◌≡◌, ℕ, Bool, true, false, not, List, [], ◌∷◌, ◌++◌, sym, refl, subst}
 use Rattle.std.proofs.lemmas.Bool.{cond_both}
 use Rattle.grammar.specs.Classes.{Blank}
 use Rattle.grammar.specs.Grammar.{All, Many, StringChar, Number}
-use Rattle.grammar.specs.Layout.{Label, Null, Boolean, Numeral, Text, Array, Object, Member, Parts, nil, part}
-use Rattle.grammar.specs.Pieces.{Token, open_array, close_array, open_object, close_object, comma, colon, Break, Leaf, null, boolean, number, string, name, token, whitespace, newline, Box, array, object, property, Pieces, end as no_pieces, leaf, box, join}
-use Rattle.grammar.proofs.Laid.{join_assoc, join_end}
-use Rattle.model.specs.Nodes.{value}
-use Rattle.model.specs.Fits.{Owner, top, of, Pos, start, items, next, named, only, shut, State, here, dead, step, Ends, Role, element, member, takes}
+use Rattle.grammar.specs.Layout.{Label, Null, Boolean, Numeral, Text, Array, Object, Member, nil, part}
+use Rattle.grammar.specs.Pieces.{Token, open_array, close_array, open_object, close_object, comma, colon, Break, Leaf, null, boolean, number, string, name, token, whitespace, newline, array, object, property, Pieces, end as no_pieces, leaf, join}
+use Rattle.model.specs.Fits.{Owner, of, Pos, start, items, next, named, only, shut, State, here, Role, takes}
 use Rattle.model.specs.Written.{Value, escaped_label, spelled, Style, is_nil, any_full, spread, inner_indent, one_space, ahead, behind, shut as shutting, framed, members, written}
-use Rattle.model.specs.Sources.{Utf8, LabelShows, Shows, IsNil, IsOne, Inside, free, keyed, LabelFits, Shaped}
+use Rattle.model.specs.Sources.{LabelShows, Shows, IsNil, IsOne, Inside, free, keyed, LabelFits, Shaped}
 use Rattle.model.proofs.Loaded.{Goes, Stands, on, stay, one_leaf, boxed}
 use Rattle.model.proofs.Escaping.{escaped_string}
 

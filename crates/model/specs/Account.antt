@@ -1,7 +1,7 @@
 -- The account of a document's history, kept beside it without looking into it: what each accepted edit does to value, comments and handles.
 -- It is fed the calls, the text that printing just before would give, and what `at` answers straight after. Assumes nothing.
-use Rattle.std.specs.Prelude.{◌≡◌, ℕ, zero, suc, ◌+◌, Bool, true, false, cond, ◌||◌, ◌⊎◌, List, [], ◌∷◌, ◌++◌, length, take, drop, Some, None, Option}
-use Rattle.grammar.specs.Layout.{Comment, Mark, Open, Close, Comma, Colon, Name, Label, Layout, stop, note, mark, item, Parts, nil, part, meaning, notes}
+use Rattle.std.specs.Prelude.{◌≡◌, ℕ, zero, suc, Bool, true, false, cond, ◌||◌, ◌⊎◌, List, [], ◌∷◌, ◌++◌, length, take, drop, Some, None, Option}
+use Rattle.grammar.specs.Layout.{Comment, Mark, Open, Close, Comma, Colon, Name, Layout, stop, note, mark, item, Parts, nil, part, meaning, notes}
 use Rattle.grammar.specs.Pieces.{layout}
 use Rattle.grammar.specs.Answer.{Answer, Read, BadText, TooDeep, read}
 use Rattle.model.specs.Nodes.{Handle}

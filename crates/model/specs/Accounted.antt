@@ -1,15 +1,15 @@
 -- Where a node lies, by place and by path, and what edits do to a whole document in the words of the account. Assumes nothing.
-use Rattle.std.specs.Prelude.{◌≡◌, ℕ, suc, Bool, true, false, List, [], ◌∷◌, ◌++◌, Some, None, Option, ◌==◌}
+use Rattle.std.specs.Prelude.{◌≡◌, ℕ, suc, true, false, List, [], ◌∷◌, ◌++◌, Some, None, ◌==◌}
 use Rattle.grammar.specs.Layout.{Parts, nil, part}
 use Rattle.grammar.specs.Pieces.{Break, layout}
-use Rattle.forest.specs.Forest.{end, node, count}
+use Rattle.forest.specs.Forest.{node, count}
 use Rattle.model.specs.Nodes.{Handle, handle, Own, Nodes, Class, gap, mark, value, class, pieces, parts}
 use Rattle.model.specs.Asks.{Frame, Spot, named, sort_of, is_property, value_in, at_path, way_to, path}
 use Rattle.model.specs.Edits.{Supply, sown, remove, exchange, root_cut, root_put}
 use Rattle.model.specs.Fits.{Document, comments, bare}
 use Rattle.model.specs.Written.{Value, Style, spelled, written}
 use Rattle.model.specs.Laws.{Writable}
-use Rattle.model.specs.State.{State, Outcome, Refused, Given, Plan, Remove, Replace, SetValue, SetRoot, planned, root_plan}
+use Rattle.model.specs.State.{State, Outcome, Refused, Given, Plan, Remove, Replace, SetValue, planned, root_plan}
 use Rattle.model.specs.Changes.{changed_under, lost, swapped, Placed, Showable}
 use Rattle.model.specs.Account.{with_handles, deleted, put, less, lost_by_removal, lost_inside, lost_all}
 

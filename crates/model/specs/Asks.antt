@@ -1,10 +1,10 @@
 -- What a document answers: the questions on its nodes. Assumes nothing.
-use Rattle.std.specs.Prelude.{ℕ, zero, suc, ◌+◌, Bool, true, false, cond, not, ◌&&◌, ◌||◌, List, [], ◌∷◌, ◌++◌, length, Some, None, Option, ◌==◌}
-use Rattle.grammar.specs.Layout.{Mark, Open, Close, Comma, Colon, Name, Parts, nil, part}
-use Rattle.grammar.specs.Pieces.{Leaf, null, boolean, number, string, name, token, whitespace, newline, comment, Break, line_feed, carriage_return, both, Box, array, object, property, Pieces, own, kept, name_of, stored}
-use Rattle.forest.specs.Forest.{Forest, end, node, size}
-use Rattle.forest.specs.Asks.{pick, own_in}
-use Rattle.model.specs.Nodes.{Handle, same, Sort, root, within, single, Own, Nodes, handle, pieces, print, Gap, blank, break, remark, Class, gap, mark, value, class, parts}
+use Rattle.std.specs.Prelude.{ℕ, zero, suc, ◌+◌, Bool, true, false, cond, ◌&&◌, ◌||◌, List, [], ◌∷◌, ◌++◌, length, Some, None, Option, ◌==◌}
+use Rattle.grammar.specs.Layout.{Open, Close, Comma, Colon, Name, Parts, nil, part}
+use Rattle.grammar.specs.Pieces.{Leaf, null, boolean, number, string, name, token, whitespace, newline, comment, Break, line_feed, carriage_return, both, Box, array, object, property, own, kept, name_of, stored}
+use Rattle.forest.specs.Forest.{end, node, size}
+use Rattle.forest.specs.Asks.{pick}
+use Rattle.model.specs.Nodes.{Handle, same, Sort, root, within, single, Own, Nodes, handle, pieces, print, blank, break, remark, Class, gap, mark, value, class}
 
 -- The whole tree: the root at the place 0 with the number 1, above its children.
 abbrev pub root_handle : Handle

@@ -1,12 +1,11 @@
 -- Changes of one child list: where it is, what the change has to keep, and what it does to a value. Assumes nothing.
-use Rattle.std.specs.Prelude.{◌≡◌, ℕ, ◌≤◌, true, false, cond, ◌⊎◌, List, [], ◌++◌, ◌==◌}
-use Rattle.std.proofs.Common.{inl, inr}
+use Rattle.std.specs.Prelude.{◌≡◌, ℕ, ◌≤◌, false, cond, ◌⊎◌, List, [], ◌++◌, ◌==◌}
 use Rattle.grammar.specs.Layout.{Comment, Parts, nil, part}
 use Rattle.grammar.specs.Classes.{Blank}
 use Rattle.grammar.specs.Grammar.{All}
 use Rattle.grammar.specs.Pieces.{Box}
 use Rattle.forest.specs.Forest.{end, node, count}
-use Rattle.model.specs.Nodes.{Handle, Sort, within, Own, Nodes, Gap, gap, value, class}
+use Rattle.model.specs.Nodes.{Handle, within, Own, Nodes, Gap, gap, value, class}
 use Rattle.model.specs.Edits.{Lines}
 use Rattle.model.specs.Written.{Value}
 use Rattle.model.specs.Sources.{Shows, IsOne, free, Shaped}

@@ -1,11 +1,11 @@
 -- The seven edits, on one child list and on the tree: what goes, and what is written where. Assumes nothing.
-use Rattle.std.specs.Prelude.{ℕ, zero, suc, ◌+◌, Bool, true, false, cond, not, ◌&&◌, ◌||◌, List, [], ◌∷◌, ◌++◌, drop, Some, None, Option, ◌==◌}
-use Rattle.grammar.specs.Layout.{Mark, Open, Close, Comma, Colon, Name}
-use Rattle.grammar.specs.Pieces.{Leaf, token, whitespace, newline, Break, Token, comma, Pieces, end as no_pieces, leaf, box, join, nodes}
-use Rattle.forest.specs.Forest.{Forest, end, node, append}
+use Rattle.std.specs.Prelude.{ℕ, zero, suc, ◌+◌, Bool, true, false, cond, not, ◌&&◌, ◌||◌, List, [], ◌∷◌, drop, Some, None, Option, ◌==◌}
+use Rattle.grammar.specs.Layout.{Open, Close, Comma, Colon, Name}
+use Rattle.grammar.specs.Pieces.{token, whitespace, newline, Break, comma, Pieces, end as no_pieces, leaf, box, join, nodes}
+use Rattle.forest.specs.Forest.{end, node, append}
 use Rattle.forest.specs.Edits.{edited}
-use Rattle.model.specs.Nodes.{Handle, Sort, root, within, single, Own, Nodes, Gap, blank, break, remark, Class, gap, mark, value, class}
-use Rattle.model.specs.Asks.{bracketed, is_blank, is_break, is_gap, is_value, is_comma, any}
+use Rattle.model.specs.Nodes.{Sort, within, single, Own, Nodes, blank, break, remark, Class, gap, mark, value, class}
+use Rattle.model.specs.Asks.{bracketed, is_break, is_gap, is_value, is_comma, any}
 
 -- What new nodes take: the free places, the first first, and the next number.
 pub record Supply : Type 0 where

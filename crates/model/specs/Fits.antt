@@ -6,7 +6,7 @@ use Rattle.grammar.specs.Layout.{Comment, Line, Block, Mark, Open, Close, Comma,
 use Rattle.grammar.specs.Grammar.{All, Many, StringChar, Number, quoted, LineComment, BlockComment}
 use Rattle.grammar.specs.Pieces.{Token, open_array, close_array, open_object, close_object, comma, colon, Leaf, null, boolean, number, string, name, token, whitespace, newline, comment, Box, array, object, property}
 use Rattle.forest.specs.Forest.{end, node}
-use Rattle.model.specs.Nodes.{Handle, Sort, root, within, single, Own, Nodes, Gap, blank, break, remark, Class, gap, mark, value, class}
+use Rattle.model.specs.Nodes.{Sort, root, within, single, Nodes, Gap, blank, break, remark, Class, gap, mark, value, class}
 
 -- whose child list it is: the root's, or a container's
 pub data Owner : Type 0 where

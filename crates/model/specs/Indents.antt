@@ -1,7 +1,7 @@
 -- Which indents a written value takes, by how the lines around it are indented. Assumes nothing.
-use Rattle.std.specs.Prelude.{ℕ, zero, suc, ◌+◌, Bool, true, false, cond, ◌&&◌, List, [], ◌∷◌, ◌++◌, Some, None, Option, ◌==◌}
-use Rattle.forest.specs.Forest.{Forest, end, node}
-use Rattle.model.specs.Nodes.{Sort, Own, Nodes}
+use Rattle.std.specs.Prelude.{ℕ, zero, suc, Bool, true, false, cond, List, [], ◌∷◌, ◌++◌, Some, None, Option, ◌==◌}
+use Rattle.forest.specs.Forest.{end, node}
+use Rattle.model.specs.Nodes.{Nodes}
 use Rattle.model.specs.Asks.{or_else, Frame, Spot, is_root, is_property, indent_before, indent_text, value_kids, sort_of}
 
 -- the current indent and the single one

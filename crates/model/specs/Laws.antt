@@ -1,8 +1,8 @@
 -- What holds of the definitions: of escapes, of newly loaded trees, of trees that are as the grammar has them, and of changes. Assumes nothing.
-use Rattle.std.specs.Prelude.{◌≡◌, ℕ, ◌+◌, ◌<◌, ◌≤◌, Bool, true, false, ◌⊎◌, List, [], ◌∷◌, ◌++◌}
-use Rattle.std.proofs.Math.Option.{Option, some, none}
+use Rattle.std.specs.Prelude.{◌≡◌, ℕ, ◌<◌, ◌≤◌, Bool, false, ◌⊎◌, List, [], ◌++◌}
+use Rattle.std.proofs.Math.Option.{some}
 use Rattle.grammar.specs.Classes.{Ascii, Blank}
-use Rattle.grammar.specs.Layout.{Comment, Parts, nil, Layout, meaning, notes}
+use Rattle.grammar.specs.Layout.{Parts, nil, meaning, notes}
 use Rattle.grammar.specs.Grammar.{All, Char, Many, StringChar, Sentence}
 use Rattle.grammar.specs.Pieces.{Break, Pieces, nodes, layout, print as print_pieces}
 use Rattle.grammar.specs.Answer.{Read, read}
@@ -17,7 +17,7 @@ use Rattle.model.specs.Sources.{Shows, IsOne, free, Shaped}
 use Rattle.model.specs.State.{State, Work, Edit, after, up_from}
 use Rattle.model.specs.Numbers.{numbers}
 use Rattle.model.specs.Changes.{At, Keeps, changed, changed_under, lost, swapped, Around, Each, Trivial, IsBracketed, IsContainer, IsItem, IsElement, Blanked, Placed, Showing, notes_before}
-use Rattle.model.specs.Account.{after_comma, Split, followed}
+use Rattle.model.specs.Account.{after_comma, followed}
 
 -- an escaped text is what may stand between quotes
 abbrev pub EscapedIsAString : Type 0

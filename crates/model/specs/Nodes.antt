@@ -1,9 +1,8 @@
 -- The nodes of a document: siblings in order with their children, each at a place, with a number and what it is. Assumes nothing.
-use Rattle.std.specs.Prelude.{ℕ, suc, ◌+◌, Bool, true, false, cond, ◌&&◌, List, [], ◌∷◌, ◌++◌, ◌==◌}
-use Rattle.std.proofs.Math.Option.{Option, some, none}
-use Rattle.grammar.specs.Layout.{Comment, Mark, Open, Close, Comma, Colon, Name, Label, Null, Boolean, Numeral, Text, Array, Object, Member, Layout, Parts, nil, part}
+use Rattle.std.specs.Prelude.{ℕ, suc, ◌+◌, Bool, ◌&&◌, List, ◌==◌}
+use Rattle.grammar.specs.Layout.{Comment, Mark, Name, Label, Null, Boolean, Numeral, Text, Array, Object, Member, Parts, nil, part}
 use Rattle.grammar.specs.Pieces.{Leaf, null, boolean, number, string, name, token, whitespace, newline, comment, Box, array, object, property, Pieces, end as no_pieces, leaf, box, inner, name_of, mark_of, nodes}
-use Rattle.grammar.specs.Pieces.{print as print_pieces, lay}
+use Rattle.grammar.specs.Pieces.{print as print_pieces}
 use Rattle.forest.specs.Forest.{Forest, end, node}
 
 -- a handle: a place in the node table and a number

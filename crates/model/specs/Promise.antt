@@ -1,15 +1,14 @@
 -- The promise: what every history of a loaded document gives. Assumes nothing.
-use Rattle.std.specs.Prelude.{◌≡◌, ℕ, suc, ◌≤◌, Bool, true, false, cond, ◌||◌, T, List, [], ◌∷◌, ◌++◌, length, Some, None, Option}
-use Rattle.grammar.specs.Layout.{Layout, meaning, notes, Parts}
+use Rattle.std.specs.Prelude.{◌≡◌, ℕ, ◌≤◌, Bool, true, false, cond, ◌||◌, T, List, [], ◌∷◌, length, Some, None, Option}
+use Rattle.grammar.specs.Layout.{Layout, meaning, notes}
 use Rattle.grammar.specs.Grammar.{Sentence}
 use Rattle.forest.specs.Forest.{count}
-use Rattle.model.specs.Nodes.{Handle, same, Sort, Nodes, parts, print}
+use Rattle.model.specs.Nodes.{Handle, same, Sort, print}
 use Rattle.model.specs.Asks.{is_some, Kind, then, tree, root_handle, named, sort_of, at_path, path}
 use Rattle.model.specs.Fits.{bare}
 use Rattle.model.specs.Written.{Value}
-use Rattle.refusal.specs.declared.Refusal.{Refusal}
 use Rattle.refusal.specs.declared.Refusal.TheVariants.{Gone, NotHere}
-use Rattle.model.specs.State.{Outcome, Refused, Given, present, State, load, print_answer, at_answer, path_answer, kind_answer, Edit, Remove, Replace, SetValue, SetRoot, Clear, SetTrailingCommas, EnsureMultiline, map_edit, Work, Plan, planned, accepted, after_outcome, after}
+use Rattle.model.specs.State.{Outcome, Refused, Given, present, State, load, print_answer, at_answer, path_answer, kind_answer, Edit, Remove, Replace, SetValue, SetRoot, Clear, SetTrailingCommas, EnsureMultiline, map_edit, Work, planned, accepted, after_outcome, after}
 use Rattle.model.specs.Sources.{Sourced}
 use Rattle.model.specs.Account.{Call, Do, Print, Ask, Account, Fed, In, opened, layout_of, account}
 

@@ -1,12 +1,12 @@
 -- Worked examples: texts, calls by path, and the bytes printed after each call. Assumes nothing.
-use Rattle.std.specs.Prelude.{◌≡◌, ℕ, Bool, true, false, cond, List, [], ◌∷◌, ◌++◌, Some, None, codes, Option}
-use Rattle.grammar.specs.Layout.{meaning, nil}
+use Rattle.std.specs.Prelude.{◌≡◌, ℕ, List, [], ◌∷◌, codes}
+use Rattle.grammar.specs.Layout.{meaning}
 use Rattle.grammar.specs.Pieces.{layout}
 use Rattle.grammar.specs.Answer.{Answer, Read, BadText, TooDeep, read}
 use Rattle.model.specs.Nodes.{Handle, parts, print}
 use Rattle.model.specs.Asks.{at_path, or_given, root_handle}
 use Rattle.model.specs.Written.{Value}
-use Rattle.model.specs.State.{Outcome, Refused, Given, State, blank_state, load, Commas, Never, IfMultiline, Edit, Remove, Replace, SetValue, SetRoot, Clear, SetTrailingCommas, EnsureMultiline, Work, after}
+use Rattle.model.specs.State.{Outcome, Refused, Given, State, load, Commas, Never, Edit, Remove, Replace, SetValue, SetRoot, Clear, SetTrailingCommas, EnsureMultiline, Work, after}
 use Rattle.model.specs.Sources.{null_value, decoded_value}
 
 -- a node: the root, or what stands at a path

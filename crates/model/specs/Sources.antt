@@ -1,17 +1,16 @@
 -- Where written values come from: what a table and a value node of a document mean, and what every source shows. Assumes nothing.
-use Rattle.std.specs.Prelude.{ℕ, zero, suc, ◌+◌, ◌-◌, ◌≤◌, Bool, true, false, cond, not, ◌&&◌, ◌||◌, List, [], ◌∷◌, ◌++◌, length, take, drop, Some, None, Option, ◌==◌, nat_lt}
+use Rattle.std.specs.Prelude.{ℕ, zero, suc, ◌+◌, ◌-◌, ◌≤◌, Bool, true, false, cond, not, ◌&&◌, ◌||◌, List, [], ◌∷◌, length, take, drop, Some, None, Option, ◌==◌, nat_lt}
 use Rattle.std.proofs.Math.Option.{Option as Told, some, none}
 use Rattle.grammar.specs.Layout.{Label, Null, Boolean, Numeral, Text, Array, Object, Member, Parts, nil, part}
-use Rattle.grammar.specs.Parse.{Out, ok, bad, deep, Res, res}
+use Rattle.grammar.specs.Parse.{ok, bad, deep, Res, res}
 use Rattle.grammar.specs.Classes.{Ascii}
 use Rattle.grammar.specs.Grammar.{Many, Char, Number}
 use Rattle.grammar.specs.Reader.{number_p, chars_p}
 use Rattle.forest.specs.Forest.{Forest, end, node}
-use Rattle.model.specs.Nodes.{Handle, Sort, Nodes, class, parts}
-use Rattle.model.specs.Asks.{then, is_some, is_value, is_property, is_root, Spot, named, sort_of}
+use Rattle.model.specs.Nodes.{Handle, class, parts}
+use Rattle.model.specs.Asks.{is_value, is_property, is_root, Spot, named, sort_of}
 use Rattle.model.specs.Written.{Value}
 use Rattle.model.specs.Escapes.{decoded}
-use Rattle.refusal.specs.declared.Refusal.{Refusal}
 use Rattle.refusal.specs.declared.Refusal.TheVariants.{Gone, NotHere, BadTable, BadMemory}
 use Rattle.model.specs.State.{Outcome, Refused, Given, unless, present, and_then, State, levels_of}
 

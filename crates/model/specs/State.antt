@@ -1,16 +1,16 @@
 -- A document's state, and what each edit makes of it or refuses. Assumes nothing.
-use Rattle.std.specs.Prelude.{ℕ, zero, suc, ◌+◌, ◌-◌, max, Bool, true, false, cond, not, ◌&&◌, ◌||◌, List, [], ◌∷◌, ◌++◌, length, drop, Some, None, Option, ◌==◌, nat_lt}
+use Rattle.std.specs.Prelude.{ℕ, zero, suc, ◌+◌, ◌-◌, max, Bool, false, cond, not, ◌&&◌, ◌||◌, List, [], ◌∷◌, ◌++◌, length, drop, Some, None, Option, ◌==◌, nat_lt}
 use Rattle.refusal.specs.declared.Refusal.{Refusal}
-use Rattle.refusal.specs.declared.Refusal.TheVariants.{BadText, TooDeep, NoNode, NoText, Gone, NotHere, Worn, Short, BadTable, BadMemory}
-use Rattle.grammar.specs.Layout.{Parts, nil, part, raised}
+use Rattle.refusal.specs.declared.Refusal.TheVariants.{BadText, TooDeep, NoNode, NoText, Gone, NotHere, Worn, Short, BadMemory}
+use Rattle.grammar.specs.Layout.{nil, part, raised}
 use Rattle.grammar.specs.Pieces.{Break, Pieces, end as no_pieces, nodes, stored}
 use Rattle.grammar.specs.Answer.{Answer, Read, BadText as Bad, TooDeep as Deep, read}
-use Rattle.forest.specs.Forest.{Forest, end, node, count, places}
-use Rattle.model.specs.Nodes.{Handle, Sort, root, Own, Nodes, handle, loaded, class, print, parts}
-use Rattle.model.specs.Asks.{living, is_some, or_else, or_given, then, Frame, Spot, spot_at, named, sort_of, spot_handle, parent_sort, is_root, is_property, bracketed, is_value, is_break, any, LineFeed, newline_kind, uses_trailing_commas, value_in, root_handle, Kind, kind, path, at_path, find, is_object, parent_info, previous_sibling, next_sibling, holds, child_at, element_index, trailing_comma, text, indent_text, NewlineKind, single_indent, start_in, same_bytes}
+use Rattle.forest.specs.Forest.{end, node, count, places}
+use Rattle.model.specs.Nodes.{Handle, root, Nodes, loaded, class, print, parts}
+use Rattle.model.specs.Asks.{living, then, Frame, Spot, spot_at, named, sort_of, is_root, is_property, bracketed, is_value, is_break, any, LineFeed, newline_kind, uses_trailing_commas, value_in, root_handle, Kind, kind, path, at_path, find, is_object, parent_info, previous_sibling, next_sibling, holds, child_at, element_index, trailing_comma, text, indent_text, NewlineKind, single_indent, start_in, same_bytes}
 use Rattle.model.specs.Indents.{Indents, root_indents, indents}
 use Rattle.model.specs.Written.{Value, Style, break_of, written}
-use Rattle.model.specs.Edits.{Supply, next_place, sown, onto, under, remove, drop_node, exchange, Cut, root_cut, root_pieces, root_put, untrailed, lined, dues, commas, trailed, Lines, unspaced, leads, spread_out}
+use Rattle.model.specs.Edits.{Supply, next_place, sown, onto, under, remove, drop_node, exchange, root_cut, root_pieces, root_put, untrailed, lined, dues, commas, trailed, Lines, unspaced, leads, spread_out}
 
 -- an answer, or a refusal
 pub data Outcome (A : Type 0) : Type 0 where

@@ -1,7 +1,7 @@
 -- How a value is written: its pieces, with line breaks, commas and indents. Assumes nothing.
-use Rattle.std.specs.Prelude.{ℕ, suc, Bool, true, false, cond, not, ◌&&◌, ◌||◌, List, [], ◌∷◌, ◌++◌}
+use Rattle.std.specs.Prelude.{ℕ, Bool, true, false, cond, not, ◌||◌, List, [], ◌∷◌, ◌++◌}
 use Rattle.grammar.specs.Layout.{Label, Null, Boolean, Numeral, Text, Array, Object, Member, Parts, nil, part}
-use Rattle.grammar.specs.Pieces.{Leaf, null, boolean, number, string, name, token, whitespace, newline, Break, line_feed, both, Token, open_array, close_array, open_object, close_object, comma, colon, Box, array, object, property, Pieces, end, leaf, box, join}
+use Rattle.grammar.specs.Pieces.{null, boolean, number, string, name, token, whitespace, newline, Break, line_feed, both, Token, open_array, close_array, open_object, close_object, comma, colon, array, object, property, Pieces, end, leaf, box, join}
 use Rattle.model.specs.Asks.{NewlineKind, LineFeed, CarriageReturnLineFeed}
 use Rattle.model.specs.Escapes.{escaped}
 

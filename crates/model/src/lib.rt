@@ -1,5 +1,6 @@
 //! What a document is and what every question and edit does, as definitions and laws: `specs/` says it, `proofs/` shows what holds of it.
 //! The code stands in the crates above.
+#![tactic(auto)]
 
 ghost use Rattle.model.specs.Cases.{Replayed};
 ghost use Rattle.model.specs.Questions.{Asked};

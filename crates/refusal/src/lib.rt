@@ -1,4 +1,5 @@
 //! Why a request is refused.
+#![tactic(auto)]
 
 ghost use Rattle.std.specs.Prelude.{◌≡◌, [], ◌∷◌, Some, MatchOption};
 ghost use Rattle.refusal.specs.Refusals.{called, number as number_of, printed, values};

@@ -1,5 +1,5 @@
 -- Lines and columns of a text. Assumes nothing.
-use Rattle.std.specs.Prelude.{ℕ, ◌+◌, Bool, true, false, cond, List, [], ◌∷◌, take, ◌==◌}
+use Rattle.std.specs.Prelude.{ℕ, ◌+◌, true, false, cond, List, [], ◌∷◌, take, ◌==◌}
 use Rattle.grammar.specs.Parse.{within}
 use Rattle.grammar.specs.Classes.{Tail}
 use Rattle.spot.specs.declared.Cursor.{Cursor}

@@ -1,4 +1,5 @@
 //! Where a byte stands in a text, as people count: lines and columns.
+#![tactic(auto)]
 
 ghost use Rattle.std.specs.Prelude.{◌≡◌, ◌+◌, ◌^◌, ◌<◌};
 ghost use Rattle.grammar.specs.Classes.{Tail};

@@ -3,6 +3,7 @@
 //! Each node has a number, which the crate above gives it: where that crate gives none twice, a handle (a place and a number)
 //! finds its own node or none. The table itself asks only that the number is not 0.
 //! The crates above speak of the table's `tree` and its `free` places alone (specs/Tables.antt), and never of a link.
+#![tactic(auto)]
 
 mod asks;
 mod changes;

@@ -1,11 +1,11 @@
 -- The pieces of a text are few: at most two nodes for each byte. Assumes nothing.
-use Rattle.std.proofs.Common.{◌≡◌, ℕ, zero, suc, ◌+◌, ◌*◌, ◌≤◌, Bool, true, false, ◌⊎◌, List, [], ◌∷◌, ◌++◌, length, sym, refl, ap, ◌∙◌, subst, inl, inr, append-nil, arith, length-append}
+use Rattle.std.proofs.Common.{◌≡◌, ℕ, zero, suc, ◌+◌, ◌*◌, ◌≤◌, Bool, true, false, ◌⊎◌, List, [], ◌∷◌, length, refl, ap, ◌∙◌, inl, inr, append-nil, arith, length-append}
 use Rattle.grammar.specs.Parse.{ok, bad, deep, Res, res, map_r, Parser, Class, starts, Opening, one_p, eps_p, bind, seq_p, pick, alt_p, map_p, onto, turn, loop, iter_p}
 use Rattle.grammar.specs.Classes.{only, Blank, LineEnd, Gap, InLine}
 use Rattle.grammar.specs.Layout.{Line, Block}
 use Rattle.grammar.specs.Grammar.{Frame, brackets, braces, closer}
-use Rattle.grammar.specs.Pieces.{Token, comma, colon, Leaf, null, boolean, number, string, name, token, whitespace, newline, line_feed, carriage_return, both, comment, Box, property, Pieces, end, leaf, box, join, own, print, nodes}
-use Rattle.grammar.specs.Reader.{either, or_p, byte_p, cat_p, word_p, run_p, chars_p, number_p, string_p, block_p, nothing_p, then_p, ahead, after_p, joins, loop_p, only_leaf, token_p, space_p, returned, return_p, newline_p, line_end_p, comment_of, comment_p, plain_p, piece_p, unit_p, trivia_p, string_leaf_p, number_leaf_p, literal_p, null_p, true_p, false_p, scalar_p, open_token, close_token, box_of, end_p, name_p, member_p, item_p, turn_p, items_p, container_p, value_from, nested_p, value_p, ValueFirst, text_p}
+use Rattle.grammar.specs.Pieces.{Token, comma, colon, Leaf, null, boolean, number, string, name, token, whitespace, newline, line_feed, comment, Box, property, Pieces, end, leaf, box, join, own, print, nodes}
+use Rattle.grammar.specs.Reader.{either, or_p, byte_p, cat_p, word_p, run_p, chars_p, number_p, string_p, block_p, nothing_p, then_p, ahead, after_p, joins, loop_p, only_leaf, token_p, space_p, returned, return_p, newline_p, line_end_p, comment_of, comment_p, plain_p, piece_p, unit_p, trivia_p, string_leaf_p, number_leaf_p, null_p, true_p, false_p, scalar_p, open_token, close_token, box_of, end_p, name_p, member_p, item_p, turn_p, items_p, container_p, nested_p, value_p, ValueFirst, text_p}
 use Rattle.lexemes.proofs.Lexed.{Bytes, bytes_string, bytes_number}
 use Rattle.lexemes.proofs.Laws.{Law1}
 use Rattle.text.specs.Reports.{labelled}

@@ -1,24 +1,20 @@
 -- Tokens, scalars and labels. Assumes nothing.
-use Rattle.std.proofs.Common.{◌≡◌, ℕ, zero, suc, ◌+◌, ◌-◌, ◌<◌, ◌≤◌, Bool, true, false, cond, ◌&&◌, ◌||◌, eqb, leb, ◌⊎◌, List, [], ◌∷◌, ◌++◌, length, get_or, take, drop, Some, None, Ok, Err, Option, Result, sym, refl, ap, ◌∙◌, subst, inl, inr, true≢false, arith}
-use mathlib.Core.Bool.{false≢true}
+use Rattle.std.proofs.Common.{◌≡◌, ℕ, ◌+◌, ◌≤◌, Bool, true, false, cond, eqb, List, [], ◌∷◌, ◌++◌, length, get_or, drop, Some, None, Ok, Err, Option, Result, sym, refl, ap, ◌∙◌, subst, inl, inr, arith}
 use Rattle.std.proofs.lemmas.Bool.Decides.{nat_tests}
 use Rattle.std.proofs.lemmas.Bool.{eqb-true}
-use Rattle.grammar.specs.Parse.{ok, bad, deep, Res, res, map_r, Parser, Class, within, starts, one_p, seq_p, pick, alt_p, map_p}
+use Rattle.grammar.specs.Parse.{map_r, Parser, within, starts, one_p, map_p}
 use Rattle.grammar.specs.Classes.{only}
-use Rattle.grammar.specs.Grammar.{Frame, brackets, braces, closer}
-use Rattle.grammar.specs.Pieces.{Token, token, comma, colon, Pieces, token_byte}
-use Rattle.grammar.specs.Reader.{or_p, then_p, only_leaf, token_p, trivia_p, name_p, close_token, end_p, string_leaf_p, null_p, true_p, false_p, number_leaf_p, scalar_p}
-use Rattle.lexemes.specs.Scan.{Reads, Fails, Passes, Goes}
-use Rattle.lexemes.proofs.Ties.{starts_in, one_reads, one_fails}
+use Rattle.grammar.specs.Pieces.{Token, token, colon, Pieces, token_byte}
+use Rattle.grammar.specs.Reader.{or_p, then_p, only_leaf, token_p, trivia_p, name_p, string_leaf_p, null_p, true_p, false_p, number_leaf_p, scalar_p}
+use Rattle.lexemes.specs.Scan.{Goes}
+use Rattle.lexemes.proofs.Ties.{one_reads, one_fails}
 use Rattle.lexemes.proofs.Lexed.{Bytes, bytes_moves}
 use Rattle.text.specs.declared.fault.Fault.{Fault}
-use Rattle.text.specs.declared.fault.Fault.TheVariants.{Bad, Deep}
-use Rattle.text.specs.declared.fault.Step.{Step}
-use Rattle.text.specs.declared.fault.Step.TheVariants.{More, Done}
+use Rattle.text.specs.declared.fault.Fault.TheVariants.{Bad}
 use Rattle.text.specs.declared.sink.LeafKind.{LeafKind}
 use Rattle.text.specs.declared.sink.TokenKind.{TokenKind}
 use Rattle.text.specs.declared.sink.TokenKind.TheVariants.{OpenArray, CloseArray, OpenObject, CloseObject, Comma, Colon}
-use Rattle.text.specs.Events.{Event, Put, events, token_for, leaf_for}
+use Rattle.text.specs.Events.{Event, Put, token_for, leaf_for}
 use Rattle.text.specs.Frames.{token_of}
 use Rattle.text.specs.Reports.{Stops, Makes, Turns, Behind, Leafs, Leads, more, done, labelled}
 use Rattle.text.proofs.Telling as telling

@@ -1,13 +1,12 @@
 -- Containers, values and whole texts. Assumes nothing.
-use Rattle.std.proofs.Common.{◌≡◌, ℕ, zero, suc, ◌+◌, ◌-◌, ◌<◌, ◌≤◌, Bool, true, false, ◌⊎◌, List, [], ◌∷◌, ◌++◌, length, drop, Ok, Err, Result, sym, refl, ap, ◌∙◌, subst, inl, inr, arith}
-use Rattle.grammar.specs.Parse.{ok, bad, deep, Res, res, map_r, Parser, Class, starts, map_p}
+use Rattle.std.proofs.Common.{◌≡◌, ℕ, zero, suc, ◌-◌, Bool, true, false, ◌⊎◌, List, [], ◌∷◌, ◌++◌, drop, Ok, Err, Result, sym, refl, ap, ◌∙◌, subst, inr, arith}
+use Rattle.grammar.specs.Parse.{map_r, Parser, starts, map_p}
 use Rattle.grammar.specs.Classes.{only}
 use Rattle.grammar.specs.Grammar.{Frame, brackets, braces, closer}
 use Rattle.grammar.specs.Pieces.{Token, Box, property, Pieces, end, box, token_byte}
 use Rattle.grammar.specs.Reader.{or_p, then_p, after_p, nothing_p, token_p, trivia_p, open_token, close_token, box_of, end_p, member_p, item_p, turn_p, items_p, container_p, nested_p, value_p, ValueFirst, text_p}
-use Rattle.lexemes.specs.Scan.{Reads}
 use Rattle.text.specs.declared.fault.Fault.{Fault}
-use Rattle.text.specs.declared.fault.Fault.TheVariants.{Bad, Deep}
+use Rattle.text.specs.declared.fault.Fault.TheVariants.{Deep}
 use Rattle.text.specs.declared.fault.Step.{Step}
 use Rattle.text.specs.Events.{Event, Enter, Leave, events}
 use Rattle.text.specs.Reports.{Stops, Makes, Turns, Leads, done, labelled}

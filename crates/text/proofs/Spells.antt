@@ -1,13 +1,11 @@
 -- The reader takes the printing of its pieces off the text. Assumes nothing.
-use Rattle.std.proofs.Common.{◌≡◌, ℕ, zero, suc, ◌+◌, ◌<◌, ◌≤◌, Bool, true, false, cond, ◌⊎◌, List, [], ◌∷◌, ◌++◌, length, sym, refl, ap, ◌∙◌, subst, inl, inr, append_assoc, append-nil, arith, length-append}
-use Rattle.std.proofs.lemmas.Bool.Decides.{nat_tests}
-use Rattle.grammar.specs.Parse.{ok, bad, deep, Res, res, map_o, map_r, Parser, Class, within, starts, Opening, one_p, eps_p, seq_p, alt_p, map_p, iter_p}
+use Rattle.std.proofs.Common.{◌≡◌, ℕ, zero, suc, ◌+◌, ◌≤◌, Bool, true, false, ◌⊎◌, List, [], ◌∷◌, ◌++◌, length, sym, refl, ap, ◌∙◌, inl, inr, append_assoc, append-nil, arith}
+use Rattle.grammar.specs.Parse.{Parser, Class, Opening, one_p, eps_p, seq_p, alt_p, map_p, iter_p}
 use Rattle.grammar.specs.Classes.{only, Blank, LineEnd, Gap, InLine}
-use Rattle.grammar.specs.Layout.{Comment, Line, Block}
 use Rattle.grammar.specs.Grammar.{Frame, brackets, braces, closer}
-use Rattle.grammar.specs.Pieces.{Token, open_array, close_array, open_object, close_object, comma, colon, Leaf, null, boolean, number, string, name, token, whitespace, newline, line_feed, carriage_return, both, comment, Box, property, Pieces, end, leaf, box, join, token_byte, own, print}
+use Rattle.grammar.specs.Pieces.{Token, comma, colon, Leaf, null, boolean, number, string, name, token, whitespace, newline, line_feed, Box, property, Pieces, end, leaf, box, join, token_byte, own, print}
 use Rattle.grammar.specs.Reader.{either, or_p, byte_p, cat_p, word_p, run_p, chars_p, number_p, string_p, block_p, nothing_p, then_p, ahead, after_p, joins, loop_p, only_leaf, token_p, space_p, returned, return_p, newline_p, line_end_p, comment_of, comment_p, plain_p, piece_p, unit_p, trivia_p, string_leaf_p, number_leaf_p, literal_p, null_p, true_p, false_p, scalar_p, open_token, close_token, box_of, end_p, name_p, member_p, item_p, turn_p, items_p, container_p, value_from, nested_p, value_p, ValueFirst, text_p}
-use Rattle.lexemes.proofs.Laws.{Law1, Law, law_one, law_byte, law_eps, law_run, law_map, law_less, law_seq, sum2, law_alt, concat, law_iter}
+use Rattle.lexemes.proofs.Laws.{Law, law_one, law_byte, law_eps, law_run, law_map, law_less, law_seq, sum2, law_alt, concat, law_iter}
 use Rattle.lexemes.proofs.Lexed.{Bytes, bytes_byte, bytes_cat, bytes_chars, bytes_block, bytes_string, bytes_number}
 
 pub print_join : (x y : Pieces) → print (join x y) ≡ print x ++ print y

@@ -1,10 +1,10 @@
 -- What a function of the reader has told the sink, by the way that its parser is joined. Assumes nothing.
-use Rattle.std.proofs.Common.{◌≡◌, ℕ, zero, suc, ◌+◌, ◌-◌, ◌<◌, ◌≤◌, Bool, true, false, ◌⊎◌, List, [], ◌∷◌, ◌++◌, length, take, drop, Ok, Err, Result, sym, refl, ap, ◌∙◌, subst, inl, inr, append_assoc, append-nil, arith}
-use Rattle.grammar.specs.Parse.{Out, ok, bad, deep, Res, res, map_o, map_r, Parser, Class, starts, bind, seq_p, pick, alt_p, map_p, onto, turn, iter_p}
-use Rattle.grammar.specs.Pieces.{Leaf, Box, Pieces, end, leaf, box, join, print}
+use Rattle.std.proofs.Common.{◌≡◌, ℕ, ◌-◌, ◌<◌, ◌≤◌, true, false, ◌⊎◌, List, [], ◌∷◌, ◌++◌, length, take, drop, Ok, Err, Result, sym, refl, ap, ◌∙◌, subst, inl, inr, append_assoc, arith}
+use Rattle.grammar.specs.Parse.{ok, bad, deep, Res, res, map_r, Parser, Class, starts, bind, map_p, onto, turn, iter_p}
+use Rattle.grammar.specs.Pieces.{Leaf, Pieces, end, leaf, box, join, print}
 use Rattle.grammar.specs.Reader.{or_p, then_p, ahead, after_p, nothing_p, joins, loop_p, only_leaf}
-use Rattle.lexemes.specs.Scan.{Reads, Fails, Passes, Goes}
-use Rattle.lexemes.proofs.Laws.{Law, iter_turn, law_moves}
+use Rattle.lexemes.specs.Scan.{Reads, Fails, Passes}
+use Rattle.lexemes.proofs.Laws.{iter_turn, law_moves}
 use Rattle.lexemes.proofs.Ties.{or_left, or_right}
 use Rattle.lexemes.proofs.Lexed.{Bytes, bytes_part}
 use Rattle.text.specs.declared.fault.Fault.{Fault}

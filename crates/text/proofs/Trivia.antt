@@ -1,26 +1,25 @@
 -- Pieces of trivia. Assumes nothing.
-use Rattle.std.proofs.Common.{◌≡◌, ℕ, zero, suc, ◌+◌, ◌-◌, ◌<◌, ◌≤◌, Bool, true, false, cond, not, ◌&&◌, ◌||◌, eqb, ltb, ◌⊎◌, List, [], ◌∷◌, ◌++◌, length, get_or, take, drop, Ok, Err, Result, sym, refl, ap, ◌∙◌, subst, inl, inr, true≢false, arith, length-drop, take_all, drop-drop}
+use Rattle.std.proofs.Common.{◌≡◌, ℕ, suc, ◌+◌, ◌-◌, ◌≤◌, Bool, true, false, not, ◌||◌, ◌⊎◌, List, [], ◌∷◌, ◌++◌, length, get_or, take, drop, Ok, Result, sym, refl, ap, ◌∙◌, subst, inl, inr, true≢false, arith, length-drop, take_all, drop-drop}
 use mathlib.Core.Bool.{false≢true}
 use Rattle.std.proofs.lemmas.Bool.Decides.{nat_tests}
 use Rattle.std.proofs.lemmas.Bool.{or_from, or_left, or_right}
-use Rattle.grammar.specs.Parse.{ok, bad, deep, Res, res, map_r, Parser, Class, within, starts, one_p, eps_p, bind, seq_p, pick, alt_p, map_p}
+use Rattle.grammar.specs.Parse.{ok, res, map_r, Parser, Class, starts, one_p, eps_p, bind, seq_p, pick, alt_p, map_p}
 use Rattle.grammar.specs.Classes.{only, Blank, LineEnd, Gap, InLine}
-use Rattle.grammar.specs.Layout.{Comment, Line, Block}
-use Rattle.grammar.specs.Pieces.{Leaf, whitespace, newline, line_feed, carriage_return, both, comment, Pieces, end, leaf}
-use Rattle.grammar.specs.Reader.{or_p, byte_p, cat_p, run_p, chars_p, block_p, nothing_p, only_leaf, space_p, returned, return_p, newline_p, line_end_p, comment_of, comment_p, plain_p, piece_p, unit_p, trivia_p}
+use Rattle.grammar.specs.Layout.{Line, Block}
+use Rattle.grammar.specs.Pieces.{whitespace, newline, line_feed, carriage_return, both, comment, Pieces, leaf}
+use Rattle.grammar.specs.Reader.{byte_p, cat_p, run_p, chars_p, block_p, nothing_p, only_leaf, space_p, returned, return_p, newline_p, line_end_p, comment_of, comment_p, plain_p, piece_p, unit_p}
 use Rattle.grammar.proofs.Laws.{apart, apart_ok}
-use Rattle.lexemes.specs.Scan.{Reads, Fails, Passes, Goes}
-use Rattle.lexemes.proofs.Ties as ties
-use Rattle.lexemes.proofs.Ties.{drop_at, starts_in, starts_at, starts_end, starts_app, one_reads, one_fails, byte_passes, cat_goes}
+use Rattle.lexemes.specs.Scan.{Fails, Passes}
+use Rattle.lexemes.proofs.Ties.{drop_at, starts_in, starts_app, one_reads, one_fails, byte_passes, cat_goes}
 use Rattle.lexemes.proofs.Laws.{law_run}
-use Rattle.lexemes.proofs.Lexed.{Bytes, bytes_moves, bytes_part, bytes_block, bytes_chars}
+use Rattle.lexemes.proofs.Lexed.{bytes_moves, bytes_part, bytes_block, bytes_chars}
 use Rattle.text.specs.declared.fault.Fault.{Fault}
-use Rattle.text.specs.declared.fault.Fault.TheVariants.{Bad, Deep}
+use Rattle.text.specs.declared.fault.Fault.TheVariants.{Bad}
 use Rattle.text.specs.declared.fault.Step.{Step}
 use Rattle.text.specs.declared.fault.Step.TheVariants.{More, Done}
 use Rattle.text.specs.Events.{Event, Put, events}
 use Rattle.text.specs.Reports.{Stops, Makes, Turns, crlf, open_line}
-use Rattle.text.proofs.Spells.{space_bytes, steps_unit}
+use Rattle.text.proofs.Spells.{space_bytes}
 use Rattle.text.proofs.Telling as telling
 use Rattle.text.proofs.Telling.{stops_by, stops_left, stops_right, stops_map}
 

@@ -1,7 +1,7 @@
 -- What a function of the reader answers, and what it has reported to the sink, in terms of a parser of pieces. Assumes nothing.
-use Rattle.std.specs.Prelude.{◌≡◌, ℕ, ◌-◌, ◌≤◌, Bool, true, false, not, ◌&&◌, ◌⊎◌, List, [], ◌∷◌, length, drop, Ok, Err, Result, ◌==◌, nat_lt, slice_index, slice_range}
+use Rattle.std.specs.Prelude.{◌≡◌, ℕ, ◌≤◌, Bool, true, false, not, ◌&&◌, ◌⊎◌, List, [], ◌∷◌, length, drop, Ok, Err, Result, ◌==◌, nat_lt, slice_index, slice_range}
 use Rattle.std.proofs.Common.{inl, inr}
-use Rattle.grammar.specs.Parse.{ok, bad, deep, res, Parser}
+use Rattle.grammar.specs.Parse.{bad, deep, res, Parser}
 use Rattle.grammar.specs.Pieces.{Pieces, colon}
 use Rattle.grammar.specs.Reader.{name_p, then_p, token_p, trivia_p}
 use Rattle.lexemes.specs.Scan.{Reads}

@@ -1,4 +1,5 @@
 //! The reader of house files: it judges a text, and reports what stands in it to a sink.
+#![tactic(auto)]
 
 pub mod fault;
 pub mod frame;

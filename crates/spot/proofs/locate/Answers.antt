@@ -1,7 +1,7 @@
 use Rattle.std.proofs.Common.{◌≡◌, ◌+◌, ◌<◌, ◌≤◌, length, get_or, take, sym, refl, ap, ◌∙◌, subst, arith}
 use Rattle.spot.specs.declared.Spot.{Spot}
 use Rattle.spot.specs.declared.Cursor.{Cursor}
-use Rattle.spot.specs.Spots.{counted, start, step, spot_at}
+use Rattle.spot.specs.Spots.{counted, start, step}
 use Rattle.spot.proofs.Counts.{counted_more, step_line, step_column, take_past}
 use Rattle.spot.proofs.locate.Goals as goal
 use Rattle.spot.proofs.locate.Goals.{then-at-text, else-at-text}

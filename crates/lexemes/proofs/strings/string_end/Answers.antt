@@ -5,6 +5,6 @@ use Rattle.lexemes.proofs.strings.string_end.Goals as goal
 
 pub returns : goal.returns
 returns c =
-    let r = c.byte-end-2.result in
-    cat_goes (byte_p (only 34)) (cat_p (many_p StringFirst string_char_p) (byte_p (only 34))) c.args.text.now c.args.from c.in-ok-i.i c.in-ok-i.ensures r
-    (cat_goes (many_p StringFirst string_char_p) (byte_p (only 34)) c.args.text.now c.in-ok-i.i c.in-ok-j.j c.in-ok-j.ensures r c.byte-end-2.ensures)
+    let r = c.byte_end-2.result in
+    cat_goes (byte_p (only 34)) (cat_p (many_p StringFirst string_char_p) (byte_p (only 34))) c.args.text.now c.args.from c.in_ok-i.i c.in_ok-i.ensures r
+    (cat_goes (many_p StringFirst string_char_p) (byte_p (only 34)) c.args.text.now c.in_ok-i.i c.in_ok-j.j c.in_ok-j.ensures r c.byte_end-2.ensures)

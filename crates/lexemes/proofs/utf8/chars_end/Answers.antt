@@ -10,24 +10,24 @@ use Rattle.lexemes.proofs.utf8.chars_end.Goals as goal
 pub loop-single-init : goal.loop-single-init
 loop-single-init c = (c.requires, λ r g. g)
 
-pub char-end-requires : goal.char-end-requires
-char-end-requires c = c.loop-single.invariant.0
+pub char_end-requires : goal.char_end-requires
+char_end-requires c = c.loop-single.invariant.0
 
-pub returns-in-err-i : goal.returns-in-err-i
-returns-in-err-i c =
-    let p = err_from_is_err_and c.from-residual.result c.from-residual.ensures.1 in
-    rw (p.1, p.2) (c.loop-single.invariant.1 (Err c.in-err-i.field-0.0) (many_fails (bytes_of c.args.single ++ MultiFirst) (char_p (bytes_of c.args.single)) (char_turns (bytes_of c.args.single)) c.args.text.now c.loop-single.i (sym c.loop-single-test.ensures) c.in-err-i.field-0.0 c.in-err-i.ensures))
+pub returns-in_err-i : goal.returns-in_err-i
+returns-in_err-i c =
+    let p = err_from_is_err_and c.from_residual.result c.from_residual.ensures.1 in
+    rw (p.1, p.2) (c.loop-single.invariant.1 (Err c.in_err-i.field-0.0) (many_fails (bytes_of c.args.single ++ MultiFirst) (char_p (bytes_of c.args.single)) (char_turns (bytes_of c.args.single)) c.args.text.now c.loop-single.i (sym c.loop-single-test.ensures) c.in_err-i.field-0.0 c.in_err-i.ensures))
 
 pub loop-single-smaller : goal.loop-single-smaller
 loop-single-smaller c =
-    let m = many_moves (bytes_of c.args.single ++ MultiFirst) (char_p (bytes_of c.args.single)) (char_turns (bytes_of c.args.single)) c.args.text.now c.loop-single.i c.loop-single.invariant.0 (sym c.loop-single-test.ensures) c.in-ok-i.i c.in-ok-i.ensures in
-    let f = c.in-ok-i.ensures.1.fits in
+    let m = many_moves (bytes_of c.args.single ++ MultiFirst) (char_p (bytes_of c.args.single)) (char_turns (bytes_of c.args.single)) c.args.text.now c.loop-single.i c.loop-single.invariant.0 (sym c.loop-single-test.ensures) c.in_ok-i.i c.in_ok-i.ensures in
+    let f = c.in_ok-i.ensures.1.fits in
     omega arith
 
 pub loop-single-preserved : goal.loop-single-preserved
 loop-single-preserved c = (
-  c.in-ok-i.ensures.1.fits,
-  λ r g. c.loop-single.invariant.1 r (many_more (bytes_of c.args.single ++ MultiFirst) (char_p (bytes_of c.args.single)) (char_turns (bytes_of c.args.single)) c.args.text.now c.loop-single.i (sym c.loop-single-test.ensures) c.in-ok-i.i c.in-ok-i.ensures r g),
+  c.in_ok-i.ensures.1.fits,
+  λ r g. c.loop-single.invariant.1 r (many_more (bytes_of c.args.single ++ MultiFirst) (char_p (bytes_of c.args.single)) (char_turns (bytes_of c.args.single)) c.args.text.now c.loop-single.i (sym c.loop-single-test.ensures) c.in_ok-i.i c.in_ok-i.ensures r g),
 )
 
 pub returns : goal.returns

@@ -7,7 +7,7 @@ pub returns : goal.returns
 returns c =
     let p = byte_p (bytes_of c.args.first) in
     let q = byte_p (bytes_of c.args.second) in
-    let r = c.tail-end-2.result in
-    cat_goes p (cat_p q (cat_p tail_p tail_p)) c.args.text.now c.args.from c.in-ok-i.i c.in-ok-i.ensures r
-    (cat_goes q (cat_p tail_p tail_p) c.args.text.now c.in-ok-i.i c.in-ok-j.j c.in-ok-j.ensures r
-    (cat_goes tail_p tail_p c.args.text.now c.in-ok-j.j c.in-ok-k.k c.in-ok-k.ensures r c.tail-end-2.ensures))
+    let r = c.tail_end-2.result in
+    cat_goes p (cat_p q (cat_p tail_p tail_p)) c.args.text.now c.args.from c.in_ok-i.i c.in_ok-i.ensures r
+    (cat_goes q (cat_p tail_p tail_p) c.args.text.now c.in_ok-i.i c.in_ok-j.j c.in_ok-j.ensures r
+    (cat_goes tail_p tail_p c.args.text.now c.in_ok-j.j c.in_ok-k.k c.in_ok-k.ensures r c.tail_end-2.ensures))

@@ -7,5 +7,5 @@ pub returns : goal.returns
 returns c =
     let p = byte_p (bytes_of c.args.first) in
     let q = byte_p (bytes_of c.args.second) in
-    cat_goes p (cat_p q tail_p) c.args.text.now c.args.from c.in-ok-i.i c.in-ok-i.ensures c.tail-end.result
-    (cat_goes q tail_p c.args.text.now c.in-ok-i.i c.in-ok-j.j c.in-ok-j.ensures c.tail-end.result c.tail-end.ensures)
+    cat_goes p (cat_p q tail_p) c.args.text.now c.args.from c.in_ok-i.i c.in_ok-i.ensures c.tail_end.result
+    (cat_goes q tail_p c.args.text.now c.in_ok-i.i c.in_ok-j.j c.in_ok-j.ensures c.tail_end.result c.tail_end.ensures)

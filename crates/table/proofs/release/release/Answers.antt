@@ -12,12 +12,12 @@ detach-after-requires c =
     let Q = vec_items c.loop-k.spare in
     let e : vec_len c.loop-k.nodes ≡ length (vec_items c.loop-k.nodes) = c.loop-k.nodes.ok.0 in
     record {
-      k-within = omega (arith, work_in X R T Y Q c.loop-k.k c.loop-k.invariant.0 c.loop-k-test.true);
+      k_within = omega (arith, work_in X R T Y Q c.loop-k.k c.loop-k.invariant.0 c.loop-k-test.true);
       last_within = λ f. omega (arith, work_last X R T Y Q c.loop-k.k c.loop-k.invariant.0 c.loop-k-test.true f);
     }
 
-pub push-reserved-requires : goal.push-reserved-requires
-push-reserved-requires c =
+pub push_reserved-requires : goal.push_reserved-requires
+push_reserved-requires c =
     let X = vec_items c.args.nodes.now in
     let R = vec_items c.args.spare.now in
     let T = forest_at (vec_items c.args.nodes.now) c.args.start in
@@ -29,7 +29,7 @@ pub loop-k-preserved : goal.loop-k-preserved
 loop-k-preserved c = (
   work_on (vec_items c.args.nodes.now) (vec_items c.args.spare.now) (forest_at (vec_items c.args.nodes.now) c.args.start)
       (vec_items c.loop-k.nodes) (vec_items c.loop-k.spare) c.loop-k.k c.loop-k.invariant.0 c.loop-k-test.true
-      (vec_items c.detach-after.new.nodes) (vec_items c.push-reserved.new.self) c.detach-after.result
-      c.detach-after.ensures.items c.push-reserved.ensures.items c.detach-after.ensures.next,
-  c.push-reserved.ensures.capacity ∙ c.loop-k.invariant.1,
+      (vec_items c.detach-after.new.nodes) (vec_items c.push_reserved.new.self) c.detach-after.result
+      c.detach-after.ensures.items c.push_reserved.ensures.items c.detach-after.ensures.next,
+  c.push_reserved.ensures.capacity ∙ c.loop-k.invariant.1,
 )

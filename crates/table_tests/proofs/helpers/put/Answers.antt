@@ -2,8 +2,8 @@ use Rattle.std.proofs.Common.{sym, ◌∙◌, arith}
 use Rattle.table.proofs.Seen.{holds_there}
 use Rattle.table_tests.proofs.helpers.put.Goals as goal
 
-pub insert-first-place-requires : goal.insert-first-place-requires
-insert-first-place-requires c =
+pub insert_first-place-requires : goal.insert_first-place-requires
+insert_first-place-requires c =
     record {
       there = holds_there c.args.table.now c.args.at.place c.args.at.number (sym c.if-not-holds.ensures);
       numbered = λ z. c.if-number-eq0.false (sym c.numbered-own.ensures ∙ z);
@@ -18,8 +18,8 @@ append-place-requires c =
       room = omega arith;
     }
 
-pub insert-after-place-requires : goal.insert-after-place-requires
-insert-after-place-requires c =
+pub insert_after-place-requires : goal.insert_after-place-requires
+insert_after-place-requires c =
     record {
       there = holds_there c.args.table.now c.args.at.place c.args.at.number (sym c.if-not-holds.ensures);
       inner = c.if-at-eq0.false;

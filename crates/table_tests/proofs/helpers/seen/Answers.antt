@@ -20,5 +20,5 @@ first-requires c = holds_there c.args.table.now c.args.at.place c.args.at.number
 pub last-requires : goal.last-requires
 last-requires c = holds_there c.args.table.now c.args.at.place c.args.at.number (sym c.if-not-holds.ensures)
 
-pub child-index-requires : goal.child-index-requires
-child-index-requires c = holds_there c.args.table.now c.args.at.place c.args.at.number (sym c.if-not-holds.ensures)
+pub child_index-requires : goal.child_index-requires
+child_index-requires c = holds_there c.args.table.now c.args.at.place c.args.at.number (sym c.if-not-holds.ensures)

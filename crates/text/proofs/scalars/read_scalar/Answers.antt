@@ -14,42 +14,42 @@ true_word = 116 ∷ 114 ∷ 117 ∷ 101 ∷ []
 abbrev false_word : List ℕ
 false_word = 102 ∷ 97 ∷ 108 ∷ 115 ∷ 101 ∷ []
 
-pub read-leaf-requires : goal.read-leaf-requires
-read-leaf-requires g c = goes_behind 1 string_p bytes_string c.args.text.now c.args.at c.requires c.string-end.result c.string-end.ensures
+pub read_leaf-requires : goal.read_leaf-requires
+read_leaf-requires g c = goes_behind 1 string_p bytes_string c.args.text.now c.args.at c.requires c.string_end.result c.string_end.ensures
 
-pub returns-then-next-is : goal.returns-then-next-is
-returns-then-next-is g c =
-    scalar_string g.S.Sink.after g.S.Sink.idle g.S.Sink.joined c.args.text.now c.args.at c.args.sink.now c.read-leaf.result c.read-leaf.new.sink c.if-next-is.ensures
-    (leaf_made g.S.Sink.after g.S.Sink.idle g.S.Sink.joined c.args.text.now c.args.at c.args.sink.now 1 String string_p bytes_string c.requires c.string-end.result c.string-end.ensures c.read-leaf.result c.read-leaf.new.sink c.read-leaf.ensures)
+pub returns-then-next_is : goal.returns-then-next_is
+returns-then-next_is g c =
+    scalar_string g.S.Sink.after g.S.Sink.idle g.S.Sink.joined c.args.text.now c.args.at c.args.sink.now c.read_leaf.result c.read_leaf.new.sink c.if-next_is.ensures
+    (leaf_made g.S.Sink.after g.S.Sink.idle g.S.Sink.joined c.args.text.now c.args.at c.args.sink.now 1 String string_p bytes_string c.requires c.string_end.result c.string_end.ensures c.read_leaf.result c.read_leaf.new.sink c.read_leaf.ensures)
 
-pub read-leaf-requires-then-next-is-2 : goal.read-leaf-requires-then-next-is-2
-read-leaf-requires-then-next-is-2 g c = goes_behind 0 (word_p null_word) (bytes_word null_word) c.args.text.now c.args.at c.requires c.word-end.result c.word-end.ensures
+pub read_leaf-requires-then-next_is-2 : goal.read_leaf-requires-then-next_is-2
+read_leaf-requires-then-next_is-2 g c = goes_behind 0 (word_p null_word) (bytes_word null_word) c.args.text.now c.args.at c.requires c.word_end.result c.word_end.ensures
 
-pub returns-then-next-is-2 : goal.returns-then-next-is-2
-returns-then-next-is-2 g c =
-    scalar_null g.S.Sink.after g.S.Sink.idle g.S.Sink.joined c.args.text.now c.args.at c.args.sink.now c.read-leaf-then-next-is-2.result c.read-leaf-then-next-is-2.new.sink c.if-next-is.ensures c.if-next-is-2.ensures
-    (leaf_made g.S.Sink.after g.S.Sink.idle g.S.Sink.joined c.args.text.now c.args.at c.args.sink.now 0 Null (word_p null_word) (bytes_word null_word) c.requires c.word-end.result c.word-end.ensures c.read-leaf-then-next-is-2.result c.read-leaf-then-next-is-2.new.sink c.read-leaf-then-next-is-2.ensures)
+pub returns-then-next_is-2 : goal.returns-then-next_is-2
+returns-then-next_is-2 g c =
+    scalar_null g.S.Sink.after g.S.Sink.idle g.S.Sink.joined c.args.text.now c.args.at c.args.sink.now c.read_leaf-then-next_is-2.result c.read_leaf-then-next_is-2.new.sink c.if-next_is.ensures c.if-next_is-2.ensures
+    (leaf_made g.S.Sink.after g.S.Sink.idle g.S.Sink.joined c.args.text.now c.args.at c.args.sink.now 0 Null (word_p null_word) (bytes_word null_word) c.requires c.word_end.result c.word_end.ensures c.read_leaf-then-next_is-2.result c.read_leaf-then-next_is-2.new.sink c.read_leaf-then-next_is-2.ensures)
 
-pub read-leaf-requires-then-next-is-3 : goal.read-leaf-requires-then-next-is-3
-read-leaf-requires-then-next-is-3 g c = goes_behind 0 (word_p true_word) (bytes_word true_word) c.args.text.now c.args.at c.requires c.word-end-then-next-is-3.result c.word-end-then-next-is-3.ensures
+pub read_leaf-requires-then-next_is-3 : goal.read_leaf-requires-then-next_is-3
+read_leaf-requires-then-next_is-3 g c = goes_behind 0 (word_p true_word) (bytes_word true_word) c.args.text.now c.args.at c.requires c.word_end-then-next_is-3.result c.word_end-then-next_is-3.ensures
 
-pub returns-then-next-is-3 : goal.returns-then-next-is-3
-returns-then-next-is-3 g c =
-    scalar_true g.S.Sink.after g.S.Sink.idle g.S.Sink.joined c.args.text.now c.args.at c.args.sink.now c.read-leaf-then-next-is-3.result c.read-leaf-then-next-is-3.new.sink c.if-next-is.ensures c.if-next-is-2.ensures c.if-next-is-3.ensures
-    (leaf_made g.S.Sink.after g.S.Sink.idle g.S.Sink.joined c.args.text.now c.args.at c.args.sink.now 0 (Boolean true) (word_p true_word) (bytes_word true_word) c.requires c.word-end-then-next-is-3.result c.word-end-then-next-is-3.ensures c.read-leaf-then-next-is-3.result c.read-leaf-then-next-is-3.new.sink c.read-leaf-then-next-is-3.ensures)
+pub returns-then-next_is-3 : goal.returns-then-next_is-3
+returns-then-next_is-3 g c =
+    scalar_true g.S.Sink.after g.S.Sink.idle g.S.Sink.joined c.args.text.now c.args.at c.args.sink.now c.read_leaf-then-next_is-3.result c.read_leaf-then-next_is-3.new.sink c.if-next_is.ensures c.if-next_is-2.ensures c.if-next_is-3.ensures
+    (leaf_made g.S.Sink.after g.S.Sink.idle g.S.Sink.joined c.args.text.now c.args.at c.args.sink.now 0 (Boolean true) (word_p true_word) (bytes_word true_word) c.requires c.word_end-then-next_is-3.result c.word_end-then-next_is-3.ensures c.read_leaf-then-next_is-3.result c.read_leaf-then-next_is-3.new.sink c.read_leaf-then-next_is-3.ensures)
 
-pub read-leaf-requires-then-next-is-4 : goal.read-leaf-requires-then-next-is-4
-read-leaf-requires-then-next-is-4 g c = goes_behind 0 (word_p false_word) (bytes_word false_word) c.args.text.now c.args.at c.requires c.word-end-then-next-is-4.result c.word-end-then-next-is-4.ensures
+pub read_leaf-requires-then-next_is-4 : goal.read_leaf-requires-then-next_is-4
+read_leaf-requires-then-next_is-4 g c = goes_behind 0 (word_p false_word) (bytes_word false_word) c.args.text.now c.args.at c.requires c.word_end-then-next_is-4.result c.word_end-then-next_is-4.ensures
 
-pub returns-then-next-is-4 : goal.returns-then-next-is-4
-returns-then-next-is-4 g c =
-    scalar_false g.S.Sink.after g.S.Sink.idle g.S.Sink.joined c.args.text.now c.args.at c.args.sink.now c.read-leaf-then-next-is-4.result c.read-leaf-then-next-is-4.new.sink c.if-next-is.ensures c.if-next-is-2.ensures c.if-next-is-3.ensures c.if-next-is-4.ensures
-    (leaf_made g.S.Sink.after g.S.Sink.idle g.S.Sink.joined c.args.text.now c.args.at c.args.sink.now 0 (Boolean false) (word_p false_word) (bytes_word false_word) c.requires c.word-end-then-next-is-4.result c.word-end-then-next-is-4.ensures c.read-leaf-then-next-is-4.result c.read-leaf-then-next-is-4.new.sink c.read-leaf-then-next-is-4.ensures)
+pub returns-then-next_is-4 : goal.returns-then-next_is-4
+returns-then-next_is-4 g c =
+    scalar_false g.S.Sink.after g.S.Sink.idle g.S.Sink.joined c.args.text.now c.args.at c.args.sink.now c.read_leaf-then-next_is-4.result c.read_leaf-then-next_is-4.new.sink c.if-next_is.ensures c.if-next_is-2.ensures c.if-next_is-3.ensures c.if-next_is-4.ensures
+    (leaf_made g.S.Sink.after g.S.Sink.idle g.S.Sink.joined c.args.text.now c.args.at c.args.sink.now 0 (Boolean false) (word_p false_word) (bytes_word false_word) c.requires c.word_end-then-next_is-4.result c.word_end-then-next_is-4.ensures c.read_leaf-then-next_is-4.result c.read_leaf-then-next_is-4.new.sink c.read_leaf-then-next_is-4.ensures)
 
-pub read-leaf-requires-2 : goal.read-leaf-requires-2
-read-leaf-requires-2 g c = goes_behind 1 number_p bytes_number c.args.text.now c.args.at c.requires c.number-end.result c.number-end.ensures
+pub read_leaf-requires-2 : goal.read_leaf-requires-2
+read_leaf-requires-2 g c = goes_behind 1 number_p bytes_number c.args.text.now c.args.at c.requires c.number_end.result c.number_end.ensures
 
 pub returns : goal.returns
 returns g c =
-    scalar_number g.S.Sink.after g.S.Sink.idle g.S.Sink.joined c.args.text.now c.args.at c.args.sink.now c.read-leaf-2.result c.read-leaf-2.new.sink c.if-next-is.ensures c.if-next-is-2.ensures c.if-next-is-3.ensures c.if-next-is-4.ensures
-    (leaf_made g.S.Sink.after g.S.Sink.idle g.S.Sink.joined c.args.text.now c.args.at c.args.sink.now 1 Number number_p bytes_number c.requires c.number-end.result c.number-end.ensures c.read-leaf-2.result c.read-leaf-2.new.sink c.read-leaf-2.ensures)
+    scalar_number g.S.Sink.after g.S.Sink.idle g.S.Sink.joined c.args.text.now c.args.at c.args.sink.now c.read_leaf-2.result c.read_leaf-2.new.sink c.if-next_is.ensures c.if-next_is-2.ensures c.if-next_is-3.ensures c.if-next_is-4.ensures
+    (leaf_made g.S.Sink.after g.S.Sink.idle g.S.Sink.joined c.args.text.now c.args.at c.args.sink.now 1 Number number_p bytes_number c.requires c.number_end.result c.number_end.ensures c.read_leaf-2.result c.read_leaf-2.new.sink c.read_leaf-2.ensures)

@@ -2,8 +2,8 @@ use Rattle.std.proofs.Common.{sym, arith}
 use Rattle.table.proofs.Seen.{index_before, index_start, index_few}
 use Rattle.table.proofs.table.Table.child_index.Goals as goal
 
-pub overflow-add-index : goal.overflow-add-index
-overflow-add-index c = omega (arith, c.loop-before.invariant.1, index_few c.args.self.now c.args.place c.requires)
+pub overflow_add-index : goal.overflow_add-index
+overflow_add-index c = omega (arith, c.loop-before.invariant.1, index_few c.args.self.now c.args.place c.requires)
 
 pub loop-before-smaller : goal.loop-before-smaller
 loop-before-smaller c = omega (arith, (index_before c.args.self.now c.loop-before.at c.loop-before.invariant.0 c.in-Some.before (sym c.in-Some.ensures)).1)
@@ -15,4 +15,4 @@ loop-before-preserved c =
 
 pub returns : goal.returns
 returns c =
-    omega (arith, c.loop-before.invariant.1, index_start c.args.self.now c.loop-before.at c.loop-before.invariant.0 (sym c.in-default.ensures))
+    omega (arith, c.loop-before.invariant.1, index_start c.args.self.now c.loop-before.at c.loop-before.invariant.0 (sym c.in_default.ensures))

@@ -3,9 +3,9 @@ use Rattle.table.specs.Tables.{records}
 use Rattle.table.proofs.Seen.{tree_size}
 use Rattle.table.proofs.table.Table.living.Goals as goal
 
-pub overflow-sub-result : goal.overflow-sub-result
+pub overflow_sub-result : goal.overflow_sub-result
 unfolding records
-overflow-sub-result c = omega (arith, tree_size c.args.self.now)
+overflow_sub-result c = omega (arith, tree_size c.args.self.now)
 
 pub returns : goal.returns
 unfolding records

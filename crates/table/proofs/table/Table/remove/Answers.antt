@@ -9,10 +9,10 @@ unlink-requires c =
     let t = c.args.self.now in
     let p = c.args.place in
     record {
-      c-within = there_in t p c.requires.there;
-      next-within = next_fits t p c.requires.there c.requires.inner;
-      prev-within = prev_fits t p c.requires.there c.requires.inner;
-      parent-within = up_fits t p c.requires.there c.requires.inner;
+      c_within = there_in t p c.requires.there;
+      next_within = next_fits t p c.requires.there c.requires.inner;
+      prev_within = prev_fits t p c.requires.there c.requires.inner;
+      parent_within = up_fits t p c.requires.there c.requires.inner;
     }
 
 pub release-requires : goal.release-requires
@@ -24,13 +24,12 @@ release-requires c =
       room = off_room t c.args.place c.requires.there c.requires.inner ys c.unlink.ensures.items;
     }
 
-pub invariant-of-self : goal.invariant-of-self
-invariant-of-self c = (
-  ∣ (gone c.args.self.now c.args.place c.requires.there c.requires.inner (vec_items c.unlink.new.nodes) c.unlink.ensures.items
+pub invariant_of-self : goal.invariant_of-self
+invariant_of-self c = record {
+  ok = ∣ (gone c.args.self.now c.args.place c.requires.there c.requires.inner (vec_items c.unlink.new.nodes) c.unlink.ensures.items
       (vec_items c.release.new.nodes) (vec_items c.release.new.spare) c.release.ensures.released
-      (vec_capacity c.release.new.spare) c.release.ensures.capacity).0 ∣₁,
-  tt,
-)
+      (vec_capacity c.release.new.spare) c.release.ensures.capacity).0 ∣₁;
+}
 
 pub returns : goal.returns
 unfolding tree free

@@ -5,21 +5,20 @@ use Rattle.table.proofs.Seen.{there_in}
 use Rattle.table.proofs.Changed.{own_changed}
 use Rattle.table.proofs.table.Table.set_text.Goals as goal
 
-pub move-text-requires : goal.move-text-requires
-move-text-requires c = there_in c.args.self.now c.args.place c.requires
+pub move_text-requires : goal.move_text-requires
+move_text-requires c = there_in c.args.self.now c.args.place c.requires
 
-pub invariant-of-self : goal.invariant-of-self
-invariant-of-self c = (
-  ∣ (own_changed c.args.self.now c.args.place c.requires (λ o. moved o c.args.start c.args.len) (λ _. refl)
-      (vec_items c.move-text.new.nodes) c.move-text.ensures).0 ∣₁,
-  tt,
-)
+pub invariant_of-self : goal.invariant_of-self
+invariant_of-self c = record {
+  ok = ∣ (own_changed c.args.self.now c.args.place c.requires (λ o. moved o c.args.start c.args.len) (λ _. refl)
+      (vec_items c.move_text.new.nodes) c.move_text.ensures).0 ∣₁;
+}
 
 pub returns : goal.returns
 unfolding tree free
 returns c =
     record {
       forest = (own_changed c.args.self.now c.args.place c.requires (λ o. moved o c.args.start c.args.len) (λ _. refl)
-          (vec_items c.move-text.new.nodes) c.move-text.ensures).1;
+          (vec_items c.move_text.new.nodes) c.move_text.ensures).1;
       same = refl;
     }

@@ -1,9 +1,9 @@
 -- What a counter has counted of the pieces of a text. Assumes nothing.
-use Rattle.std.proofs.Common.{◌≡◌, ℕ, zero, suc, ◌+◌, ◌-◌, ◌*◌, ◌^◌, ◌≤◌, min, max, Bool, true, false, List, [], ◌∷◌, ◌++◌, length, sym, refl, ap, ◌∙◌, subst, arith, length-append}
-use Rattle.grammar.specs.Layout.{Comment, Line, Block, Layout, levels, notes}
+use Rattle.std.proofs.Common.{◌≡◌, ℕ, suc, ◌+◌, ◌-◌, ◌^◌, ◌≤◌, max, Bool, true, false, ◌∷◌, ◌++◌, length, sym, refl, ap, ◌∙◌, arith, length-append}
+use Rattle.grammar.specs.Layout.{levels, notes}
 use Rattle.grammar.specs.Pieces.{Leaf, null, boolean, number, string, name, token, whitespace, newline, comment, Box, array, object, property, Pieces, end, leaf, box, own, print, kept, nodes, stored, lay}
 use Rattle.text.specs.Events.{Event, Put, Enter, Leave, events}
-use Rattle.check.specs.Counted.{plus, fold, fold_app, remark, level, node_step, byte_step, note_step, level_step}
+use Rattle.checking.specs.Counted.{plus, fold, fold_app, remark, level, node_step, byte_step, note_step, level_step}
 
 -- so much for each leaf, and so much for each container
 abbrev weigh : (Leaf → ℕ) → (Box → ℕ) → Pieces → ℕ

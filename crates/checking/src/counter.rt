@@ -2,7 +2,7 @@
 
 ghost use Rattle.std.specs.Prelude.{◌≡◌, ℕ, List, length};
 ghost use Rattle.grammar.specs.Pieces.{kept};
-ghost use Rattle.check.specs.Counted.{Counted, level, onward, remark, still};
+ghost use Rattle.checking.specs.Counted.{Counted, level, onward, remark, still};
 ghost use Rattle.text.specs.Events.{box_for, leaf_for};
 
 use crate::extent::Extent;

@@ -1,9 +1,8 @@
 -- What a counter counts of what it is told. Assumes nothing.
 use Rattle.std.specs.Prelude.{◌≡◌, ℕ, ◌+◌, ◌-◌, ◌^◌, min, max, List, [], ◌∷◌, ◌++◌, length, refl}
-use Rattle.std.proofs.Common.{sym, ◌∙◌, ap}
-use Rattle.grammar.specs.Layout.{Comment}
+use Rattle.std.proofs.Common.{◌∙◌, ap}
 use Rattle.grammar.specs.Pieces.{Leaf, null, boolean, number, string, name, token, whitespace, newline, comment, Box, array, object, property, kept}
-use Rattle.check.specs.declared.counter.Counter.{Counter}
+use Rattle.checking.specs.declared.counter.Counter.{Counter}
 use Rattle.text.specs.Events.{Event, Put, Enter, Leave}
 
 -- a sum that stops at the largest number

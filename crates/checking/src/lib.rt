@@ -1,10 +1,11 @@
 //! The check of a text, which allocates nothing: whether it is a house file, and how large its document is.
+#![tactic(auto)]
 
 pub mod counter;
 pub mod extent;
 
 ghost use Rattle.std.specs.Prelude.{◌≡◌};
-ghost use Rattle.check.specs.Checked.{checked, refusal_for};
+ghost use Rattle.checking.specs.Checked.{checked, refusal_for};
 ghost use Rattle.grammar.specs.Answer.{Right};
 
 use counter::Counter;

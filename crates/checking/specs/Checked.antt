@@ -3,7 +3,7 @@ use Rattle.std.specs.Prelude.{ℕ, suc, cond, List, length, Ok, Err, Result, nat
 use Rattle.grammar.specs.Answer as answer
 use Rattle.grammar.specs.Layout.{notes, levels}
 use Rattle.grammar.specs.Pieces.{Pieces, nodes, stored, layout}
-use Rattle.check.specs.declared.extent.Extent.{Extent}
+use Rattle.checking.specs.declared.extent.Extent.{Extent}
 use Rattle.text.specs.declared.fault.Fault.{Fault}
 use Rattle.text.specs.declared.fault.Fault.TheVariants.{Bad, Deep}
 use Rattle.refusal.specs.declared.Refusal.{Refusal}

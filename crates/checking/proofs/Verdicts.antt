@@ -1,26 +1,26 @@
 -- What the check of a text answers, by what the reader has read. Assumes nothing.
-use Rattle.std.proofs.Common.{◌≡◌, ℕ, suc, ◌+◌, ◌-◌, ◌*◌, ◌<◌, ◌≤◌, true, false, cond, ltb, List, [], ◌∷◌, ◌++◌, length, get_or, drop, Ok, Err, Result, sym, refl, ap, ◌∙◌, subst, append-nil, arith, length-drop, drop_of_length-le, le-ltb}
-use Rattle.grammar.specs.Parse.{ok, bad, deep, Res, res}
+use Rattle.std.proofs.Common.{◌≡◌, ℕ, suc, ◌+◌, ◌-◌, ◌<◌, ◌≤◌, cond, List, [], ◌∷◌, length, get_or, drop, Ok, Err, Result, sym, ap, ◌∙◌, subst, append-nil, arith, length-drop, drop_of_length-le, le-ltb}
+use Rattle.grammar.specs.Parse.{ok, res}
 use Rattle.grammar.specs.Layout.{levels, notes}
 use Rattle.grammar.specs.Pieces.{Pieces, print, nodes, stored, layout}
 use Rattle.grammar.specs.Reader.{text_p}
-use Rattle.grammar.specs.Answer.{Answer, Read, BadText, TooDeep, whole, read}
+use Rattle.grammar.specs.Answer.{whole, read}
 use Rattle.lexemes.specs.Scan.{Reads}
 use Rattle.lexemes.proofs.Ties.{drop_at}
 use Rattle.lexemes.proofs.Laws.{Law1}
-use Rattle.check.specs.declared.counter.Counter.{Counter}
-use Rattle.check.specs.declared.extent.Extent.{Extent}
+use Rattle.checking.specs.declared.counter.Counter.{Counter}
+use Rattle.checking.specs.declared.extent.Extent.{Extent}
 use Rattle.text.specs.declared.fault.Fault.{Fault}
 use Rattle.text.specs.declared.fault.Fault.TheVariants.{Bad, Deep}
 use Rattle.refusal.specs.declared.Refusal.{Refusal}
 use Rattle.refusal.specs.declared.Refusal.TheVariants as refusal
 use Rattle.text.specs.Events.{events}
-use Rattle.check.specs.Counted.{Counted, fold, node_step, byte_step, note_step, level_step, depths}
-use Rattle.check.specs.Checked.{extent_of, judged, checked, refusal_for}
+use Rattle.checking.specs.Counted.{Counted}
+use Rattle.checking.specs.Checked.{extent_of, judged, checked, refusal_for}
 use Rattle.text.specs.Reports.{Stops}
 use Rattle.text.proofs.Spells.{says_text}
 use Rattle.text.proofs.Firm.{Sure1, Fine, fine_text}
-use Rattle.check.proofs.Tallies.{nodes_counted, stored_counted, notes_counted, levels_counted}
+use Rattle.checking.proofs.Tallies.{nodes_counted, stored_counted, notes_counted, levels_counted}
 
 module _ (s : List ℕ) (short : length s ≤ 1048576) where
   taken : checked s ≡ judged (read 64 s)
