@@ -1,6 +1,7 @@
 //! House files as documents: load, ask, edit, print. Every call is total: it answers, or hands back one refusal and changes nothing.
 
 pub use document::Document;
+pub use loader::LoadError;
 pub use neighbours::{
     child_at_index, next_sibling, parent_info, previous_sibling, trailing_comma, value,
 };

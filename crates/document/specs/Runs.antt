@@ -1,16 +1,16 @@
 -- Loading, the runs of calls after it, and what they promise. Assumes nothing.
 use Rattle.std.specs.Prelude.{◌≡◌, ℕ, List, [], ◌∷◌, Ok, Err, Result}
-use Rattle.refusal.specs.declared.Refusal.{Refusal}
 use Rattle.model.specs.Written.{Value}
 use Rattle.model.specs.State.{Given, load}
 use Rattle.model.specs.Account.{Call}
 use Rattle.model.specs.Promise.{printing, after_call, Promise, Lasting, account_of, Meant, meant}
+use Rattle.loader.specs.declared.error.LoadError.{LoadError}
 use Rattle.loader.specs.Loaded.{RefusedSo}
 use Rattle.document.specs.declared.document.Document.{Document}
 use Rattle.document.specs.Documents.{state_of}
 
 -- what load makes of the document d: e, which is loaded as the definition says, or is d still where it is refused
-abbrev pub Loads : ℕ → ℕ → List ℕ → Document → Document → Result (Unit {0}) Refusal → Type 0
+abbrev pub Loads : ℕ → ℕ → List ℕ → Document → Document → Result (Unit {0}) LoadError → Type 0
 Loads r m t d e (Ok _) = load r m t ≡ Given (state_of e)
 Loads r m t d e (Err x) = RefusedSo r m t x × (e ≡ d)
 
@@ -29,6 +29,6 @@ abbrev pub Keeps : Document → Type 0
 Keeps d = (cs : List (Call Meant)) (e : Document) → Runs meant d cs e → Promise meant (state_of d) cs (state_of e) (account_of meant (state_of d) cs) × Lasting meant (state_of e)
 
 -- a document loaded with the text t prints it, and keeps the promise
-abbrev pub Promises : List ℕ → Document → Result (Unit {0}) Refusal → Type 0
+abbrev pub Promises : List ℕ → Document → Result (Unit {0}) LoadError → Type 0
 Promises t d (Ok _) = (printing (state_of d) ≡ t) × Keeps d
 Promises t d (Err x) = Unit {0}

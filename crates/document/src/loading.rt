@@ -1,12 +1,11 @@
 ghost use Rattle.document.specs.Runs.{Loads, Promises};
 
 use crate::document::Document;
-use loader::load_tree;
-use refusal::Refusal;
+use loader::{LoadError, load_tree};
 
 impl Document {
     /// Loads the text, with so many records and a store of so many bytes, in place of what was loaded before. A refusal leaves the document as it was.
-    pub fn load(&mut self, records: usize, store: usize, text: &[u8]) -> Result<(), Refusal>
+    pub fn load(&mut self, records: usize, store: usize, text: &[u8]) -> Result<(), LoadError>
         ensures loaded { Loads records store text.now self.old self.new result }
         ensures promise { Promises text.now self.new result }
     {
@@ -15,7 +14,7 @@ impl Document {
                 self.tree = Some(tree);
                 Ok(())
             }
-            Err(refusal) => Err(refusal),
+            Err(error) => Err(error),
         }
     }
 }

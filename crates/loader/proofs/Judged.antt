@@ -2,7 +2,7 @@
 use Rattle.std.proofs.Common.{◌≡◌, ℕ, suc, ◌<◌, ◌≤◌, false, cond, ltb, List, [], ◌∷◌, length, Ok, Err, Result, sym, refl, ap, ◌∙◌, subst, arith}
 use Rattle.std.proofs.lemmas.Bool.{lt-ltb, le-ltb}
 use Rattle.refusal.specs.declared.Refusal.{Refusal}
-use Rattle.refusal.specs.declared.Refusal.TheVariants.{BadText, TooDeep, NoNode, NoText, Gone, NotHere, Worn, Short, BadTable, BadMemory, NoMemory}
+use Rattle.refusal.specs.declared.Refusal.TheVariants.{BadText, TooDeep, NoNode, NoText, Gone, NotHere, Worn, Short, BadTable, BadMemory}
 use Rattle.grammar.specs.Parse.{ok, bad, deep, Res, res}
 use Rattle.grammar.specs.Pieces.{Pieces, nodes, stored}
 use Rattle.grammar.specs.Reader.{text_p}
@@ -15,6 +15,8 @@ use Rattle.text.specs.Reports.{Makes}
 use Rattle.checking.specs.declared.extent.Extent.{Extent}
 use Rattle.checking.specs.Checked.{extent_of, judged, checked}
 use Rattle.model.specs.State.{Refused, Given, unless, loaded_state, load, loading}
+use Rattle.loader.specs.declared.error.LoadError.{LoadError}
+use Rattle.loader.specs.declared.error.LoadError.TheVariants as error
 use Rattle.loader.specs.Loaded.{bad_sizes, RefusedSo, Fitting}
 
 -- a text that is not too long
@@ -89,21 +91,11 @@ module _ (r m : ℕ) where
     pub load_given : (a : Pieces) → read 64 t ≡ Read a → suc (nodes a) ≤ r → length (stored a) ≤ m → load r m t ≡ Given (loaded_state r m a)
     load_given a e h k = load_is ∙ (ap (λ y. loading r m y) e ∙ loading_given a h k)
 
-    pub load_refused : (f : Refusal) → loading r m (read 64 t) ≡ Refused f → RefusedSo r m t f
-    load_refused (BadText p) h = load_is ∙ h
-    load_refused TooDeep h = load_is ∙ h
-    load_refused NoNode h = load_is ∙ h
-    load_refused NoText h = load_is ∙ h
-    load_refused Gone h = load_is ∙ h
-    load_refused NotHere h = load_is ∙ h
-    load_refused Worn h = load_is ∙ h
-    load_refused (Short n) h = load_is ∙ h
-    load_refused (BadTable p) h = load_is ∙ h
-    load_refused BadMemory h = load_is ∙ h
-    load_refused NoMemory h = fine
+    pub load_refused : (e : Refusal) → loading r m (read 64 t) ≡ Refused e → RefusedSo r m t (error.Refused e)
+    load_refused e h = load_is ∙ h
 
-    pub want_memory : (f : Refusal) → f ≡ NoMemory → RefusedSo r m t f
-    want_memory f e = subst (λ y. RefusedSo r m t y) (sym e) fine
+    pub want_memory : (e : LoadError) → e ≡ error.NoMemory → RefusedSo r m t e
+    want_memory e h = subst (λ y. RefusedSo r m t y) (sym h) fine
 
 -- a reading of a text that the reader takes comes to its end, and tells all of it
 module _ {S : Type 0} (after : S → List Event → S → Type 0) (t : List ℕ) (a : Pieces) where

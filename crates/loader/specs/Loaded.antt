@@ -1,33 +1,25 @@
 -- What comes of a load. Assumes nothing.
 use Rattle.std.specs.Prelude.{◌≡◌, ℕ, suc, ◌≤◌, Bool, false, ◌||◌, List, length, Ok, Err, Result, ◌==◌, nat_lt}
 use Rattle.refusal.specs.declared.Refusal.{Refusal}
-use Rattle.refusal.specs.declared.Refusal.TheVariants.{BadText, TooDeep, NoNode, NoText, Gone, NotHere, Worn, Short, BadTable, BadMemory, NoMemory}
 use Rattle.grammar.specs.Answer.{Answer, Read, BadText as Bad, TooDeep as Deep, read}
 use Rattle.grammar.specs.Pieces.{nodes, stored}
 use Rattle.model.specs.State.{Refused, Given, largest, load, loading}
 use Rattle.tree.specs.declared.tree.Tree.{Tree}
 use Rattle.tree.specs.Trees.{state}
+use Rattle.loader.specs.declared.error.LoadError.{LoadError}
+use Rattle.loader.specs.declared.error.LoadError.TheVariants as error
 
 -- the sizes are not taken: no records or more than 65,535, or room or a text of more than 1,048,576 bytes
 abbrev pub bad_sizes : ℕ → ℕ → List ℕ → Bool
 bad_sizes r m t = r == 0 || (nat_lt 65535 r || (nat_lt largest m || nat_lt largest (length t)))
 
--- a refusal is the one that load answers; but for want of memory, which may come wherever the sizes are taken
-abbrev pub RefusedSo : ℕ → ℕ → List ℕ → Refusal → Type 0
-RefusedSo r m t (BadText p) = load r m t ≡ Refused (BadText p)
-RefusedSo r m t TooDeep = load r m t ≡ Refused TooDeep
-RefusedSo r m t NoNode = load r m t ≡ Refused NoNode
-RefusedSo r m t NoText = load r m t ≡ Refused NoText
-RefusedSo r m t Gone = load r m t ≡ Refused Gone
-RefusedSo r m t NotHere = load r m t ≡ Refused NotHere
-RefusedSo r m t Worn = load r m t ≡ Refused Worn
-RefusedSo r m t (Short n) = load r m t ≡ Refused (Short n)
-RefusedSo r m t (BadTable p) = load r m t ≡ Refused (BadTable p)
-RefusedSo r m t BadMemory = load r m t ≡ Refused BadMemory
-RefusedSo r m t NoMemory = bad_sizes r m t ≡ false
+-- nothing is loaded: load refuses so, or memory does not suffice, which may be wherever the sizes are taken
+abbrev pub RefusedSo : ℕ → ℕ → List ℕ → LoadError → Type 0
+RefusedSo r m t (error.Refused e) = load r m t ≡ Refused e
+RefusedSo r m t error.NoMemory = bad_sizes r m t ≡ false
 
 -- the load of the text t, with r records and room for m bytes: a tree in the state that load gives, or a refusal
-abbrev pub Loaded : ℕ → ℕ → List ℕ → Result Tree Refusal → Type 0
+abbrev pub Loaded : ℕ → ℕ → List ℕ → Result Tree LoadError → Type 0
 Loaded r m t (Ok d) = load r m t ≡ Given (state d)
 Loaded r m t (Err e) = RefusedSo r m t e
 

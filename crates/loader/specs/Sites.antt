@@ -1,8 +1,6 @@
 -- What a builder has built, and what each thing that it is told adds. Assumes nothing.
 use Rattle.std.specs.Prelude.{◌≡◌, ℕ, ◌+◌, ◌-◌, Bool, cond, List, [], ◌∷◌, ◌++◌, length, Some, None, Ok, Err, vec_items, vec_len, Option, Result, nat_le, refl}
 use Rattle.std.proofs.Common.{◌∙◌, ap}
-use Rattle.refusal.specs.declared.Refusal.{Refusal}
-use Rattle.refusal.specs.declared.Refusal.TheVariants.{NoMemory}
 use Rattle.grammar.specs.Pieces.{kept}
 use Rattle.forest.specs.Forest.{Forest, end, node, size}
 use Rattle.forest.specs.Asks.{parent_in}
@@ -16,6 +14,8 @@ use Rattle.checking.specs.Counted.{fold, fold_app}
 use Rattle.model.specs.State.{State}
 use Rattle.tree.specs.Well.{kids_in}
 use Rattle.loader.specs.declared.builder.Builder.{Builder}
+use Rattle.loader.specs.declared.error.LoadError.{LoadError}
+use Rattle.loader.specs.declared.error.LoadError.TheVariants.{NoMemory}
 use Rattle.loader.specs.Kinds.{leaf_kind, box_kind}
 
 -- the nodes, the free places, the stored bytes and how many there may be, and the node whose children are being built
@@ -92,7 +92,7 @@ abbrev pub bare_site : ℕ → ℕ → Site
 bare_site r m = record { tree = node 0 root_own end end; free = table.run 1 (r - 1); bytes = []; room = m; at = 0 }
 
 -- a new builder is so; or memory does not suffice
-abbrev pub Began : ℕ → ℕ → Result Builder Refusal → Type 0
+abbrev pub Began : ℕ → ℕ → Result Builder LoadError → Type 0
 Began r m (Ok b) = site_of b ≡ bare_site r m
 Began r m (Err e) = e ≡ NoMemory
 

@@ -6,7 +6,7 @@ ghost use Rattle.tree.specs.Trees.{state};
 ghost use Rattle.loader.specs.Sites.{Began, added, built_state, place_for, site_of};
 
 use crate::builder::Builder;
-use refusal::Refusal;
+use crate::error::LoadError;
 use std::alloc::Global;
 use table::{Kind, Own, Place, Table};
 use tree::Tree;
@@ -25,7 +25,7 @@ fn push_all(store: &mut Vec<u8>, bytes: &[u8])
 
 impl Builder {
     /// The root alone, in a table of so many records, with room for so many bytes.
-    pub fn new(heap: Global, records: usize, room: usize) -> Result<Builder, Refusal>
+    pub fn new(heap: Global, records: usize, room: usize) -> Result<Builder, LoadError>
         requires some { 0 < records }
         requires few { records ≤ 65535 }
         requires large { room ≤ 1048576 }
@@ -39,11 +39,11 @@ impl Builder {
         };
         let table = match Table::new(heap, records, root) {
             Ok(table) => table,
-            Err(_) => return Err(Refusal::NoMemory),
+            Err(_) => return Err(LoadError::NoMemory),
         };
         let store = match Vec::with_capacity(heap, room) {
             Ok(store) => store,
-            Err(_) => return Err(Refusal::NoMemory),
+            Err(_) => return Err(LoadError::NoMemory),
         };
         Ok(Builder {
             table,

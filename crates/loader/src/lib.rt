@@ -3,6 +3,7 @@
 
 mod builder;
 mod building;
+mod error;
 mod kinds;
 mod telling;
 
@@ -15,6 +16,7 @@ ghost use Rattle.loader.specs.Sites.{Built};
 
 use builder::Builder;
 use checking::{MAX_TEXT, check_text};
+pub use error::LoadError;
 use refusal::Refusal;
 use std::alloc::Global;
 use text::values::read_text;
@@ -56,11 +58,11 @@ fn tell(text: &[u8], builder: &mut Builder)
 }
 
 /// The tree of a text, in a table of so many records and a store with room for so many bytes.
-pub fn load_tree(heap: Global, records: usize, room: usize, text: &[u8]) -> Result<Tree, Refusal>
+pub fn load_tree(heap: Global, records: usize, room: usize, text: &[u8]) -> Result<Tree, LoadError>
     ensures { Loaded records room text.now result }
 {
     if refuses_sizes(records, room, text) {
-        return Err(Refusal::BadMemory);
+        return Err(LoadError::Refused(Refusal::BadMemory));
     }
     let mut builder = Builder::new(heap, records, room)?;
     judge(records, room, text)?;

@@ -5,7 +5,6 @@ use Rattle.model.specs.Nodes.{Handle}
 use Rattle.model.specs.Asks as asks
 use Rattle.model.specs.State as state
 use Rattle.model.specs.State.{State, Outcome, Work}
-use Rattle.model.specs.Calls as question
 use Rattle.model.specs.Account as account
 use Rattle.model.specs.Promise.{Meant}
 use Rattle.tree.specs.declared.class.NodeKind.{NodeKind}
@@ -94,25 +93,30 @@ answer_to w LineBreak = noted (λ k. answer.Break (break_of k)) (state.newline_a
 answer_to w (UsesTrailingCommas h) = noted answer.Flag (state.uses_answer w.state (handle_for h) w.queue)
 answer_to w Clear = noted nothing (state.outcome w.state idle state.Clear)
 
--- the call as the definitions of runs have it
+-- the handle of no node
+abbrev pub nobody : Handle
+nobody = account.or_nobody None
+
+-- The call as the definitions of runs have it: a printing, an edit, or a question of the node whose handle it names; one that names none is told
+-- as of no node. A question changes nothing, whatever it asks.
 abbrev pub call_for : World → Call → account.Call Meant
 call_for w Print = account.Print (length w.bytes)
-call_for w Root = account.Ask question.Root
-call_for w Edits = account.Ask question.Edits
-call_for w (Value h) = account.Ask (question.Value (handle_for h))
-call_for w (Kind h) = account.Ask (question.Kind (handle_for h))
-call_for w (Path h) = account.Ask (question.Path (handle_for h) (length w.ordinals))
-call_for w (At p) = account.Ask (question.At p.now)
-call_for w (Find h t) = account.Ask (question.Find (handle_for h) t.now)
-call_for w (ParentInfo h) = account.Ask (question.Parent (handle_for h))
-call_for w (PreviousSibling h) = account.Ask (question.Previous (handle_for h))
-call_for w (NextSibling h) = account.Ask (question.Next (handle_for h))
-call_for w (ChildAtIndex h n) = account.Ask (question.Child (handle_for h) n)
-call_for w (ElementIndex h) = account.Ask (question.Element (handle_for h))
-call_for w (TrailingComma h) = account.Ask (question.Trailing (handle_for h))
-call_for w (Text h) = account.Ask (question.Text (handle_for h) (length w.bytes))
-call_for w LineBreak = account.Ask (question.Newline w.queue)
-call_for w (UsesTrailingCommas h) = account.Ask (question.Uses (handle_for h) w.queue)
+call_for w Root = account.Ask nobody
+call_for w Edits = account.Ask nobody
+call_for w (Value h) = account.Ask (handle_for h)
+call_for w (Kind h) = account.Ask (handle_for h)
+call_for w (Path h) = account.Ask (handle_for h)
+call_for w (At p) = account.Ask nobody
+call_for w (Find h t) = account.Ask (handle_for h)
+call_for w (ParentInfo h) = account.Ask (handle_for h)
+call_for w (PreviousSibling h) = account.Ask (handle_for h)
+call_for w (NextSibling h) = account.Ask (handle_for h)
+call_for w (ChildAtIndex h n) = account.Ask (handle_for h)
+call_for w (ElementIndex h) = account.Ask (handle_for h)
+call_for w (TrailingComma h) = account.Ask (handle_for h)
+call_for w (Text h) = account.Ask (handle_for h)
+call_for w LineBreak = account.Ask nobody
+call_for w (UsesTrailingCommas h) = account.Ask (handle_for h)
 call_for w Clear = account.Do state.Clear idle
 
 -- What a call touches: nothing, the start of a buffer, or the document.

@@ -1,9 +1,10 @@
 -- What replay makes of a document and of all that is lent. Assumes nothing.
 use Rattle.std.specs.Prelude.{◌≡◌, ℕ, ◌<◌, ◌≤◌, ◌⊎◌, List, ◌++◌, length, drop, Ok, Err, Result}
-use Rattle.refusal.specs.declared.Refusal.{Refusal}
 use Rattle.refusal.specs.declared.Refusal.TheVariants.{BadMemory}
 use Rattle.model.specs.State.{State, Given, load}
 use Rattle.model.specs.Promise.{Promise, Lasting, account_of, meant}
+use Rattle.loader.specs.declared.error.LoadError.{LoadError}
+use Rattle.loader.specs.declared.error.LoadError.TheVariants.{Refused}
 use Rattle.loader.specs.Loaded.{RefusedSo}
 use Rattle.document.specs.declared.document.Document.{Document}
 use Rattle.document.specs.Documents.{state_of}
@@ -41,14 +42,14 @@ pub record Played (s : Start) (cs : List Call) (a b : Lent) : Type 0 where
   pub lasting : Lasting meant (state_of b.document)
 
 -- Refused: there are more calls than answers can be recorded, or else load refuses so; and all is as it was.
-pub record Stopped (s : Start) (cs : List Call) (a b : Lent) (e : Refusal) : Type 0 where
-  pub why : ((length a.answers < length cs) × (e ≡ BadMemory)) ⊎ ((length cs ≤ length a.answers) × RefusedSo s.records s.store s.text e)
+pub record Stopped (s : Start) (cs : List Call) (a b : Lent) (e : LoadError) : Type 0 where
+  pub why : ((length a.answers < length cs) × (e ≡ Refused BadMemory)) ⊎ ((length cs ≤ length a.answers) × RefusedSo s.records s.store s.text e)
   pub document : b.document ≡ a.document
   pub answers : b.answers ≡ a.answers
   pub bytes : b.bytes ≡ a.bytes
   pub ordinals : b.ordinals ≡ a.ordinals
 
 -- what replay makes of the lent a: b
-abbrev pub Replayed : Start → List Call → Lent → Lent → Result (Unit {0}) Refusal → Type 0
+abbrev pub Replayed : Start → List Call → Lent → Lent → Result (Unit {0}) LoadError → Type 0
 Replayed s cs a b (Ok _) = Played s cs a b
 Replayed s cs a b (Err e) = Stopped s cs a b e

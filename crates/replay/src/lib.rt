@@ -11,6 +11,7 @@ ghost use Rattle.replay.specs.Replayed.{Replayed};
 pub use call::{Answer, Call};
 use carry::carry;
 use document::Document;
+use loader::LoadError;
 use refusal::Refusal;
 use table::Place;
 
@@ -44,11 +45,11 @@ pub fn replay(
     bytes: &mut [u8],
     ordinals: &mut [usize],
     queue: &mut [Place],
-) -> Result<(), Refusal>
+) -> Result<(), LoadError>
     ensures { Replayed (record { records = records; store = store; text = text.now }) calls.now (record { document = document.entry.now; answers = answers.old; bytes = bytes.old; ordinals = ordinals.old; queue = queue.old }) (record { document = document.exit.now; answers = answers.new; bytes = bytes.new; ordinals = ordinals.new; queue = queue.new }) result }
 {
     if answers.len() < calls.len() {
-        return Err(Refusal::BadMemory);
+        return Err(LoadError::Refused(Refusal::BadMemory));
     }
     document.load(records, store, text)?;
     carry_all(document, calls, answers, bytes, ordinals, queue);

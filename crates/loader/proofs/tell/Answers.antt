@@ -4,4 +4,4 @@ use Rattle.loader.proofs.Judged.{all_told}
 use Rattle.loader.proofs.tell.Goals as goal
 
 pub returns : goal.returns
-returns c = λ a e. all_told Built c.args.text.now a e c.args.builder.now c.read-text.new.sink c.read-text.result c.read-text.ensures
+returns c = λ a e. all_told Built c.args.text.now a e c.args.builder.now c.read_text.new.sink c.read_text.result c.read_text.ensures

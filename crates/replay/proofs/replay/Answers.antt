@@ -12,16 +12,16 @@ pub returns : goal.returns
 returns c =
     let d : State = state_of c.load.new.self in
     let w : World = record { state = d; bytes = c.args.bytes.now; ordinals = c.args.ordinals.now; queue = length c.args.queue.now } in
-    let l = c.in-ok-load.ensures.loaded in
-    let s : state_of c.carry-all.new.document ≡ (carried_all w c.args.calls.now).state = ap (λ y. y.state) c.carry-all.ensures.world in
-    let p = the_promise c.args.records c.args.store c.args.text.now d l (calls_for w c.args.calls.now) (state_of c.carry-all.new.document)
+    let l = c.in_ok-load.ensures.loaded in
+    let s : state_of c.carry_all.new.document ≡ (carried_all w c.args.calls.now).state = ap (λ y. y.state) c.carry_all.ensures.world in
+    let p = the_promise c.args.records c.args.store c.args.text.now d l (calls_for w c.args.calls.now) (state_of c.carry_all.new.document)
     (subst (λ y. Run meant d (calls_for w c.args.calls.now) y) (sym s) (runs w c.args.calls.now)) in
     record {
       room = c.if-answers-calls.false;
       loaded = d;
       loads = l;
-      world = c.carry-all.ensures.world;
-      recorded = c.carry-all.ensures.recorded;
+      world = c.carry_all.ensures.world;
+      recorded = c.carry_all.ensures.recorded;
       promise = p.0;
       lasting = p.1;
     }

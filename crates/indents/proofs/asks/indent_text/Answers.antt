@@ -11,38 +11,38 @@ use Rattle.indents.specs.Blanks.{blanks, blanks_from}
 use Rattle.indents.proofs.Filled.{refused, refused_exit, absent, given, none_filled, short_filled, fully_filled}
 use Rattle.indents.proofs.asks.indent_text.Goals as goal
 
-pub returns-in-err-place : goal.returns-in-err-place
-returns-in-err-place c =
+pub returns-in_err-place : goal.returns-in_err-place
+returns-in_err-place c =
     let n = length c.args.out.now in
-    let m = c.in-err-place.ensures in
+    let m = c.in_err-place.ensures in
     refused_exit (indent_answer (state_of c.args.document.now) (handle_for c.args.handle) n) c.args.out.now
-    c.from-residual-in-err-place.result c.in-err-place.field-0.0 Gone c.from-residual-in-err-place.ensures.1 m.0
-    (gone c.args.document.now c.in-ok-tree.tree.now c.in-ok-tree.ensures (handle_for c.args.handle) (λ s. filled_or n (indent_text s)) m.1)
+    c.from_residual-in_err-place.result c.in_err-place.field-0.0 Gone c.from_residual-in_err-place.ensures.1 m.0
+    (gone c.args.document.now c.in_ok-tree.tree.now c.in_ok-tree.ensures (handle_for c.args.handle) (λ s. filled_or n (indent_text s)) m.1)
 
-pub returns-then-is-none : goal.returns-then-is-none
-returns-then-is-none c =
+pub returns-then-is_none : goal.returns-then-is_none
+returns-then-is_none c =
     let n = length c.args.out.now in
-    let ks = kids c.in-ok-tree.tree.now in
+    let ks = kids c.in_ok-tree.tree.now in
     absent (indent_answer (state_of c.args.document.now) (handle_for c.args.handle) n) c.args.out.now
-    (here c.args.document.now c.in-ok-tree.tree.now c.in-ok-tree.ensures (handle_for c.args.handle) (λ s. filled_or n (indent_text s)) c.in-ok-place.place c.in-ok-place.ensures.1
-    ∙ (ap (λ o. filled_or n o) (sym (c.indent-start-start.ensures.indent ∙ ap indent_before c.previous.ensures.siblings))
-    ∙ none_filled ks c.indent-start-start.result n c.if-is-none.ensures))
+    (here c.args.document.now c.in_ok-tree.tree.now c.in_ok-tree.ensures (handle_for c.args.handle) (λ s. filled_or n (indent_text s)) c.in_ok-place.place c.in_ok-place.ensures.1
+    ∙ (ap (λ o. filled_or n o) (sym (c.indent_start-start.ensures.indent ∙ ap indent_before c.previous.ensures.siblings))
+    ∙ none_filled ks c.indent_start-start.result n c.if-is_none.ensures))
 
 pub returns-then-out-size : goal.returns-then-out-size
 returns-then-out-size c =
     let n = length c.args.out.now in
-    let ks = kids c.in-ok-tree.tree.now in
-    refused (indent_answer (state_of c.args.document.now) (handle_for c.args.handle) n) c.args.out.now (Short c.blanks-size-size.result)
-    (here c.args.document.now c.in-ok-tree.tree.now c.in-ok-tree.ensures (handle_for c.args.handle) (λ s. filled_or n (indent_text s)) c.in-ok-place.place c.in-ok-place.ensures.1
-    ∙ (ap (λ o. filled_or n o) (sym (c.indent-start-start.ensures.indent ∙ ap indent_before c.previous.ensures.siblings))
-    ∙ short_filled ks c.indent-start-start.result n c.blanks-size-size.result c.if-is-none.ensures c.if-out-size.true c.blanks-size-size.ensures))
+    let ks = kids c.in_ok-tree.tree.now in
+    refused (indent_answer (state_of c.args.document.now) (handle_for c.args.handle) n) c.args.out.now (Short c.blanks_size-size.result)
+    (here c.args.document.now c.in_ok-tree.tree.now c.in_ok-tree.ensures (handle_for c.args.handle) (λ s. filled_or n (indent_text s)) c.in_ok-place.place c.in_ok-place.ensures.1
+    ∙ (ap (λ o. filled_or n o) (sym (c.indent_start-start.ensures.indent ∙ ap indent_before c.previous.ensures.siblings))
+    ∙ short_filled ks c.indent_start-start.result n c.blanks_size-size.result c.if-is_none.ensures c.if-out-size.true c.blanks_size-size.ensures))
 
 pub returns : goal.returns
 returns c =
     let n = length c.args.out.now in
-    let ks = kids c.in-ok-tree.tree.now in
-    given (indent_answer (state_of c.args.document.now) (handle_for c.args.handle) n) c.args.out.now (blanks (back c.indent-start-start.result ks)) c.write-blanks.new.out c.blanks-size-size.result
-    (here c.args.document.now c.in-ok-tree.tree.now c.in-ok-tree.ensures (handle_for c.args.handle) (λ s. filled_or n (indent_text s)) c.in-ok-place.place c.in-ok-place.ensures.1
-    ∙ (ap (λ o. filled_or n o) (sym (c.indent-start-start.ensures.indent ∙ ap indent_before c.previous.ensures.siblings))
-    ∙ fully_filled ks c.indent-start-start.result n c.if-is-none.ensures (omega (arith, c.blanks-size-size.ensures, c.if-out-size.false))))
-    c.blanks-size-size.ensures c.write-blanks.ensures
+    let ks = kids c.in_ok-tree.tree.now in
+    given (indent_answer (state_of c.args.document.now) (handle_for c.args.handle) n) c.args.out.now (blanks (back c.indent_start-start.result ks)) c.write_blanks.new.out c.blanks_size-size.result
+    (here c.args.document.now c.in_ok-tree.tree.now c.in_ok-tree.ensures (handle_for c.args.handle) (λ s. filled_or n (indent_text s)) c.in_ok-place.place c.in_ok-place.ensures.1
+    ∙ (ap (λ o. filled_or n o) (sym (c.indent_start-start.ensures.indent ∙ ap indent_before c.previous.ensures.siblings))
+    ∙ fully_filled ks c.indent_start-start.result n c.if-is_none.ensures (omega (arith, c.blanks_size-size.ensures, c.if-out-size.false))))
+    c.blanks_size-size.ensures c.write_blanks.ensures

@@ -5,14 +5,14 @@ use Rattle.indents.proofs.Gathered.{blanks_long}
 use Rattle.indents.proofs.Weights.{blanks_few}
 use Rattle.indents.proofs.blanks.blanks_size.Goals as goal
 
-pub overflow-add-total : goal.overflow-add-total
-overflow-add-total c =
+pub overflow_add-total : goal.overflow_add-total
+overflow_add-total c =
     let ks = kids c.args.tree.now in
-    let m = blanks_long ks c.loop-step.step c.in-Some.place c.in-Some.is (sym c.is-blank.ensures ∙ c.if-not-is-blank.false) c.spelling.result.now c.spelling.ensures in
+    let m = blanks_long ks c.loop-step.step c.in-Some.place c.in-Some.is (sym c.is_blank.ensures ∙ c.if-not-is_blank.false) c.spelling.result.now c.spelling.ensures in
     omega (arith, c.loop-step.invariant.1, m, blanks_few c.args.tree.now c.args.from c.requires)
 
 pub loop-step-preserved : goal.loop-step-preserved
 loop-step-preserved c =
     let ks = kids c.args.tree.now in
-    let m = blanks_long ks c.loop-step.step c.in-Some.place c.in-Some.is (sym c.is-blank.ensures ∙ c.if-not-is-blank.false) c.spelling.result.now c.spelling.ensures in
+    let m = blanks_long ks c.loop-step.step c.in-Some.place c.in-Some.is (sym c.is_blank.ensures ∙ c.if-not-is_blank.false) c.spelling.result.now c.spelling.ensures in
     (c.previous-step.ensures.there, omega (arith, c.loop-step.invariant.1, m, ap (λ b. length (blanks b)) c.previous-step.ensures.siblings))

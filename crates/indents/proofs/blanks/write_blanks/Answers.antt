@@ -6,16 +6,16 @@ use Rattle.indents.proofs.Gathered.{blanks_more, blanks_long}
 use Rattle.indents.proofs.Backwards.{turn_back}
 use Rattle.indents.proofs.blanks.write_blanks.Goals as goal
 
-pub overflow-sub-end : goal.overflow-sub-end
-overflow-sub-end c =
+pub overflow_sub-end : goal.overflow_sub-end
+overflow_sub-end c =
     let ks = kids c.args.tree.now in
-    let m = blanks_long ks c.loop-step.step c.in-Some.place c.in-Some.is (sym c.is-blank.ensures ∙ c.if-not-is-blank.false) c.spelling-bytes.result.now c.spelling-bytes.ensures in
+    let m = blanks_long ks c.loop-step.step c.in-Some.place c.in-Some.is (sym c.is_blank.ensures ∙ c.if-not-is_blank.false) c.spelling-bytes.result.now c.spelling-bytes.ensures in
     omega (arith, c.loop-step.invariant.1, m)
 
 pub put-requires : goal.put-requires
 put-requires c =
     let ks = kids c.args.tree.now in
-    let m = blanks_long ks c.loop-step.step c.in-Some.place c.in-Some.is (sym c.is-blank.ensures ∙ c.if-not-is-blank.false) c.spelling-bytes.result.now c.spelling-bytes.ensures in
+    let m = blanks_long ks c.loop-step.step c.in-Some.place c.in-Some.is (sym c.is_blank.ensures ∙ c.if-not-is_blank.false) c.spelling-bytes.result.now c.spelling-bytes.ensures in
     omega (arith, c.loop-step.invariant.1, c.loop-step.invariant.3, c.loop-step.auto.out, m)
 
 pub loop-step-preserved : goal.loop-step-preserved
@@ -24,7 +24,7 @@ loop-step-preserved c =
     let y = c.previous-step.result in
     let x = c.loop-step.step in
     let own = c.spelling-bytes.result.now in
-    let e = sym c.is-blank.ensures ∙ c.if-not-is-blank.false in
+    let e = sym c.is_blank.ensures ∙ c.if-not-is_blank.false in
     let m = blanks_long ks x c.in-Some.place c.in-Some.is e own c.spelling-bytes.ensures in
     let n = ap (λ b. length (blanks b)) c.previous-step.ensures.siblings in (
       c.previous-step.ensures.there,

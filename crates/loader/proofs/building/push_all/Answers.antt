@@ -6,10 +6,10 @@ use Rattle.loader.proofs.building.push_all.Goals as goal
 
 pub loop-b-preserved : goal.loop-b-preserved
 loop-b-preserved c = (
-  pushed_more (vec_items c.args.store.now) (vec_items c.loop-b.store) (vec_items c.push-reserved.new.self) c.args.bytes.now c.loop-b.b-index c.loop-b-test.true
-      c.loop-b.invariant.0 c.push-reserved.ensures.items,
-  omega (arith, c.push-reserved.ensures.len, c.loop-b.invariant.1),
-  c.push-reserved.ensures.capacity ∙ c.loop-b.invariant.2,
+  pushed_more (vec_items c.args.store.now) (vec_items c.loop-b.store) (vec_items c.push_reserved.new.self) c.args.bytes.now c.loop-b.b-index c.loop-b-test.true
+      c.loop-b.invariant.0 c.push_reserved.ensures.items,
+  omega (arith, c.push_reserved.ensures.len, c.loop-b.invariant.1),
+  c.push_reserved.ensures.capacity ∙ c.loop-b.invariant.2,
 )
 
 pub returns : goal.returns

@@ -12,13 +12,13 @@ use Rattle.document.proofs.Asked.{here, gone_exit}
 use Rattle.neighbours.specs.Pairs.{pair_for}
 use Rattle.neighbours.proofs.asks.trailing_comma.Goals as goal
 
-pub returns-in-err-place : goal.returns-in-err-place
-returns-in-err-place c =
-    let m = c.in-err-place.ensures in
-    gone_exit c.args.document.now c.in-ok-tree.tree.now c.in-ok-tree.ensures (handle_for c.args.handle) (λ s. Given (trailing_comma s)) (optional handle_for)
-    c.from-residual-in-err-place.result c.in-err-place.field-0.0 c.from-residual-in-err-place.ensures.1 m.0 m.1
+pub returns-in_err-place : goal.returns-in_err-place
+returns-in_err-place c =
+    let m = c.in_err-place.ensures in
+    gone_exit c.args.document.now c.in_ok-tree.tree.now c.in_ok-tree.ensures (handle_for c.args.handle) (λ s. Given (trailing_comma s)) (optional handle_for)
+    c.from_residual-in_err-place.result c.in_err-place.field-0.0 c.from_residual-in_err-place.ensures.1 m.0 m.1
 
 pub returns : goal.returns
 returns c =
-    ap Given (c.comma-from.ensures ∙ ap trailing c.next.ensures.siblings)
-    ∙ sym (here c.args.document.now c.in-ok-tree.tree.now c.in-ok-tree.ensures (handle_for c.args.handle) (λ s. Given (trailing_comma s)) c.in-ok-place.place c.in-ok-place.ensures.1)
+    ap Given (c.comma_from.ensures ∙ ap trailing c.next.ensures.siblings)
+    ∙ sym (here c.args.document.now c.in_ok-tree.tree.now c.in_ok-tree.ensures (handle_for c.args.handle) (λ s. Given (trailing_comma s)) c.in_ok-place.place c.in_ok-place.ensures.1)

@@ -12,19 +12,19 @@ use Rattle.document.proofs.Asked.{here, gone_exit}
 use Rattle.neighbours.specs.Pairs.{pair_for}
 use Rattle.neighbours.proofs.asks.value.Goals as goal
 
-pub returns-in-err-place : goal.returns-in-err-place
-returns-in-err-place c =
-    let m = c.in-err-place.ensures in
-    gone_exit c.args.document.now c.in-ok-tree.tree.now c.in-ok-tree.ensures (handle_for c.args.handle) (λ s. cond (is_root (sort_of s) || is_property (sort_of s)) (Given (value_in s.kids)) (Refused NotHere)) (optional handle_for)
-    c.from-residual-in-err-place.result c.in-err-place.field-0.0 c.from-residual-in-err-place.ensures.1 m.0 m.1
+pub returns-in_err-place : goal.returns-in_err-place
+returns-in_err-place c =
+    let m = c.in_err-place.ensures in
+    gone_exit c.args.document.now c.in_ok-tree.tree.now c.in_ok-tree.ensures (handle_for c.args.handle) (λ s. cond (is_root (sort_of s) || is_property (sort_of s)) (Given (value_in s.kids)) (Refused NotHere)) (optional handle_for)
+    c.from_residual-in_err-place.result c.in_err-place.field-0.0 c.from_residual-in_err-place.ensures.1 m.0 m.1
 
-pub returns-then-not-has-one-value : goal.returns-then-not-has-one-value
-returns-then-not-has-one-value c =
-    let s = spot_of c.in-ok-place.place (kids c.in-ok-tree.tree.now) in
-    sym (here c.args.document.now c.in-ok-tree.tree.now c.in-ok-tree.ensures (handle_for c.args.handle) (λ s. cond (is_root (sort_of s) || is_property (sort_of s)) (Given (value_in s.kids)) (Refused NotHere)) c.in-ok-place.place c.in-ok-place.ensures.1 ∙ cond-false (is_root (sort_of s) || is_property (sort_of s)) (Given (value_in s.kids)) (Refused NotHere) (sym c.has-one-value.ensures ∙ c.if-not-has-one-value.true))
+pub returns-then-not-has_one_value : goal.returns-then-not-has_one_value
+returns-then-not-has_one_value c =
+    let s = spot_of c.in_ok-place.place (kids c.in_ok-tree.tree.now) in
+    sym (here c.args.document.now c.in_ok-tree.tree.now c.in_ok-tree.ensures (handle_for c.args.handle) (λ s. cond (is_root (sort_of s) || is_property (sort_of s)) (Given (value_in s.kids)) (Refused NotHere)) c.in_ok-place.place c.in_ok-place.ensures.1 ∙ cond-false (is_root (sort_of s) || is_property (sort_of s)) (Given (value_in s.kids)) (Refused NotHere) (sym c.has_one_value.ensures ∙ c.if-not-has_one_value.true))
 
 pub returns : goal.returns
 returns c =
-    let s = spot_of c.in-ok-place.place (kids c.in-ok-tree.tree.now) in
-    ap Given (c.value-from.ensures ∙ ap value_in c.first.ensures.children)
-    ∙ sym (here c.args.document.now c.in-ok-tree.tree.now c.in-ok-tree.ensures (handle_for c.args.handle) (λ s. cond (is_root (sort_of s) || is_property (sort_of s)) (Given (value_in s.kids)) (Refused NotHere)) c.in-ok-place.place c.in-ok-place.ensures.1 ∙ cond-true (is_root (sort_of s) || is_property (sort_of s)) (Given (value_in s.kids)) (Refused NotHere) (sym c.has-one-value.ensures ∙ c.if-not-has-one-value.false))
+    let s = spot_of c.in_ok-place.place (kids c.in_ok-tree.tree.now) in
+    ap Given (c.value_from.ensures ∙ ap value_in c.first.ensures.children)
+    ∙ sym (here c.args.document.now c.in_ok-tree.tree.now c.in_ok-tree.ensures (handle_for c.args.handle) (λ s. cond (is_root (sort_of s) || is_property (sort_of s)) (Given (value_in s.kids)) (Refused NotHere)) c.in_ok-place.place c.in_ok-place.ensures.1 ∙ cond-true (is_root (sort_of s) || is_property (sort_of s)) (Given (value_in s.kids)) (Refused NotHere) (sym c.has_one_value.ensures ∙ c.if-not-has_one_value.false))

@@ -68,4 +68,4 @@ pub returns-in-Value : goal.returns-in-Value
 returns-in-Value c = comma_value (kids c.args.tree.now) c.loop-step.step c.in-Some.place c.in-Some.is (class_is_value _ c.in-Value.ensures) ∙ c.loop-step.invariant.1
 
 pub returns : goal.returns
-returns c = ap (λ y. trailing (rest y (kids c.args.tree.now))) (sym c.in-default.is) ∙ c.loop-step.invariant.1
+returns c = ap (λ y. trailing (rest y (kids c.args.tree.now))) (sym c.in_default.is) ∙ c.loop-step.invariant.1

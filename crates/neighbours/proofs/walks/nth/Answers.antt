@@ -31,4 +31,4 @@ loop-step-preserved c = (
 )
 
 pub returns : goal.returns
-returns c = child_end c.loop-step.left c.loop-step.step (kids c.args.tree.now) c.in-default.is ∙ c.loop-step.invariant.1
+returns c = child_end c.loop-step.left c.loop-step.step (kids c.args.tree.now) c.in_default.is ∙ c.loop-step.invariant.1

@@ -10,16 +10,16 @@ use Rattle.neighbours.proofs.walks.value_from.Goals as goal
 pub loop-step-init : goal.loop-step-init
 loop-step-init c = (c.requires, refl)
 
-pub is-value-requires : goal.is-value-requires
-is-value-requires c = stands c.loop-step.step c.in-Some.place (kids c.args.tree.now) c.in-Some.is c.loop-step.invariant.0
+pub is_value-requires : goal.is_value-requires
+is_value-requires c = stands c.loop-step.step c.in-Some.place (kids c.args.tree.now) c.in-Some.is c.loop-step.invariant.0
 
 pub handle-requires : goal.handle-requires
 handle-requires c = stands c.loop-step.step c.in-Some.place (kids c.args.tree.now) c.in-Some.is c.loop-step.invariant.0
 
-pub returns-then-is-value : goal.returns-then-is-value
-returns-then-is-value c =
+pub returns-then-is_value : goal.returns-then-is_value
+returns-then-is_value c =
     ap Some (c.handle.ensures ∙ spot_handle_lem c.args.tree.now c.in-Some.place (stands c.loop-step.step c.in-Some.place (kids c.args.tree.now) c.in-Some.is c.loop-step.invariant.0))
-    ∙ (value_here (kids c.args.tree.now) c.loop-step.step c.in-Some.place c.in-Some.is (sym c.is-value.ensures ∙ c.if-is-value.true) ∙ c.loop-step.invariant.1)
+    ∙ (value_here (kids c.args.tree.now) c.loop-step.step c.in-Some.place c.in-Some.is (sym c.is_value.ensures ∙ c.if-is_value.true) ∙ c.loop-step.invariant.1)
 
 pub next-step-requires : goal.next-step-requires
 next-step-requires c = stands c.loop-step.step c.in-Some.place (kids c.args.tree.now) c.in-Some.is c.loop-step.invariant.0
@@ -30,8 +30,8 @@ loop-step-smaller c = rest_less c.loop-step.step c.in-Some.place (kids c.args.tr
 pub loop-step-preserved : goal.loop-step-preserved
 loop-step-preserved c = (
   c.next-step.ensures.there,
-  value_on (kids c.args.tree.now) c.loop-step.step c.in-Some.place c.in-Some.is (sym c.is-value.ensures ∙ c.if-is-value.false) c.next-step.result c.next-step.ensures.siblings ∙ c.loop-step.invariant.1,
+  value_on (kids c.args.tree.now) c.loop-step.step c.in-Some.place c.in-Some.is (sym c.is_value.ensures ∙ c.if-is_value.false) c.next-step.result c.next-step.ensures.siblings ∙ c.loop-step.invariant.1,
 )
 
 pub returns : goal.returns
-returns c = ap (λ y. value_in (rest y (kids c.args.tree.now))) (sym c.in-default.is) ∙ c.loop-step.invariant.1
+returns c = ap (λ y. value_in (rest y (kids c.args.tree.now))) (sym c.in_default.is) ∙ c.loop-step.invariant.1

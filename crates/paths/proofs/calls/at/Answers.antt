@@ -6,8 +6,8 @@ use Rattle.paths.proofs.calls.at.Goals as goal
 
 pub returns-in-Some : goal.returns-in-Some
 returns-in-Some c =
-    ap (present NotHere) c.in-Some.ensures ∙ sym (at_answer_lem c.args.document.now c.in-ok-tree.tree.now c.in-ok-tree.ensures c.args.path.now)
+    ap (present NotHere) c.in-Some.ensures ∙ sym (at_answer_lem c.args.document.now c.in_ok-tree.tree.now c.in_ok-tree.ensures c.args.path.now)
 
 pub returns-in-None : goal.returns-in-None
 returns-in-None c =
-    ap (present NotHere) c.in-None.ensures ∙ sym (at_answer_lem c.args.document.now c.in-ok-tree.tree.now c.in-ok-tree.ensures c.args.path.now)
+    ap (present NotHere) c.in-None.ensures ∙ sym (at_answer_lem c.args.document.now c.in_ok-tree.tree.now c.in_ok-tree.ensures c.args.path.now)

@@ -11,14 +11,14 @@ pub loop-ordinal-init : goal.loop-ordinal-init
 loop-ordinal-init c =
     let ks = kids c.args.tree.now in
     let xs = c.args.path.now in
-    (c.nth-value-at.ensures.there, sym (c.nth-value-at.ensures.found xs) ∙ ap (λ y. at (parts y) 0 xs) (c.first.ensures.children ∙ root_kids ks))
+    (c.nth_value-at.ensures.there, sym (c.nth_value-at.ensures.found xs) ∙ ap (λ y. at (parts y) 0 xs) (c.first.ensures.children ∙ root_kids ks))
 
 pub loop-ordinal-preserved : goal.loop-ordinal-preserved
 loop-ordinal-preserved c =
     let ks = kids c.args.tree.now in
     let xs = c.args.path.now in
     let i = c.loop-ordinal.ordinal-index in
-    let r = c.nth-value-at-in-Some in (
+    let r = c.nth_value-at-in-Some in (
       r.ensures.there,
       land_on c.in-Some.place ks r.result c.first-in-Some.result xs i c.loop-ordinal-test.true c.first-in-Some.ensures.children r.ensures.found
           ∙ (ap (λ y. landed y ks (drop i xs)) (sym c.in-Some.is) ∙ c.loop-ordinal.invariant.1),

@@ -14,5 +14,5 @@ returns-then-left-eq0 c =
     let s = subst (λ y. Leads y (kids t)) c.in-Some.is c.loop-at.invariant.0 in
     record {
       there = s;
-      found = λ q. c.loop-at.invariant.1 q ∙ (ap (λ y. at (parts (rest y (kids t))) c.loop-at.left q) c.in-Some.is ∙ (ap (λ y. at (parts (rest (Some k) (kids t))) y q) c.if-left-eq0.true ∙ land_here k (kids t) (place_is t k s) c.if-is-value.ensures q));
+      found = λ q. c.loop-at.invariant.1 q ∙ (ap (λ y. at (parts (rest y (kids t))) c.loop-at.left q) c.in-Some.is ∙ (ap (λ y. at (parts (rest (Some k) (kids t))) y q) c.if-left-eq0.true ∙ land_here k (kids t) (place_is t k s) c.if-is_value.ensures q));
     }

@@ -8,7 +8,7 @@ pub returns-in-Some : goal.returns-in-Some
 returns-in-Some c =
     let ks = kids c.args.tree.now in
     let s = spot_of c.args.place ks in
-    c.is-array.ensures ∙ above_array ks s s.ups c.in-Some.parent c.in-Some.ensures.above
+    c.is_array.ensures ∙ above_array ks s s.ups c.in-Some.parent c.in-Some.ensures.above
 
 pub returns-in-None : goal.returns-in-None
 returns-in-None c =

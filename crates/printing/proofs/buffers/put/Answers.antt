@@ -3,4 +3,4 @@ use Rattle.printing.proofs.Written.{written}
 use Rattle.printing.proofs.buffers.put.Goals as goal
 
 pub returns : goal.returns
-returns c = record { out = written c.args.out.now c.copy-from-slice.new.self c.args.bytes.now c.args.at c.copy-from-slice.ensures.after; end = refl }
+returns c = record { out = written c.args.out.now c.copy_from_slice.new.self c.args.bytes.now c.args.at c.copy_from_slice.ensures.after; end = refl }

@@ -5,8 +5,8 @@ use Rattle.tree.specs.Trees.{kids}
 use Rattle.tree.specs.Steps.{Leads, rest}
 use Rattle.printing.proofs.walks.+size_from.Given as goal
 
-abbrev pub decreases-size-from : goal.decreases-size-from
-decreases-size-from l = size (rest l.from (kids l.tree.now))
+abbrev pub decreases-size_from : goal.decreases-size_from
+decreases-size_from l = size (rest l.from (kids l.tree.now))
 
 abbrev pub invariant-loop-step : goal.invariant-loop-step
 invariant-loop-step l =

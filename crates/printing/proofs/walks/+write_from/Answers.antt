@@ -15,8 +15,8 @@ put-own-requires t c =
     let l = rest_long ks c.loop-step.step c.in-Some.place c.in-Some.is c.spelling.result.now c.spelling.ensures in
     omega (arith, c.loop-step.invariant.1, c.requires.room, c.loop-step.auto.out)
 
-pub write-from-at-requires : goal.write-from-at-requires
-write-from-at-requires t c =
+pub write_from-at-requires : goal.write_from-at-requires
+write_from-at-requires t c =
     let ks = kids c.args.tree.now in
     let m = fewer ks c.loop-step.step c.in-Some.place c.in-Some.is in
     let l = rest_long ks c.loop-step.step c.in-Some.place c.in-Some.is c.spelling.result.now c.spelling.ensures in
@@ -46,11 +46,11 @@ loop-step-preserved t c =
     rest_printed ks c.loop-step.step k c.in-Some.is c.inner.result c.next-step.result c.inner.ensures.nodes c.next-step.ensures.siblings
     ∙ ap (λ y. y ++ (P ++ N)) (sym c.spelling.ensures) in
     let e1 = c.put-own.ensures.end in
-    let e2 = c.write-from-at.ensures.end in (
+    let e2 = c.write_from-at.ensures.end in (
       c.next-step.ensures.there,
       omega (arith, c.loop-step.invariant.1),
-      turn_again c.loop-step.out c.put-own.new.out c.write-from-at.new.out c.spelling.result.now P N T c.loop-step.at c.put-own.result c.write-from-at.result
-          p c.put-own.ensures.out e1 c.write-from-at.ensures.out e2 (omega (arith, c.loop-step.invariant.1, c.requires.room, c.loop-step.auto.out))
+      turn_again c.loop-step.out c.put-own.new.out c.write_from-at.new.out c.spelling.result.now P N T c.loop-step.at c.put-own.result c.write_from-at.result
+          p c.put-own.ensures.out e1 c.write_from-at.ensures.out e2 (omega (arith, c.loop-step.invariant.1, c.requires.room, c.loop-step.auto.out))
           ∙ c.loop-step.invariant.2,
       omega (arith, m.1, c.loop-step.invariant.3, ap (λ y. size y) c.next-step.ensures.siblings),
     )
@@ -58,7 +58,7 @@ loop-step-preserved t c =
 pub returns : goal.returns
 returns t c =
     let ks = kids c.args.tree.now in
-    let z = end_printed ks c.loop-step.step c.in-default.is in
+    let z = end_printed ks c.loop-step.step c.in_default.is in
     record {
       out = sym (over_none c.loop-step.out c.loop-step.at) ∙ (ap (over c.loop-step.out c.loop-step.at) (sym z) ∙ c.loop-step.invariant.2);
       end = omega (arith, c.loop-step.invariant.1, ap length z);

@@ -6,8 +6,8 @@ use Rattle.tree.specs.Steps.{Leads, rest}
 use Rattle.printing.specs.Buffers.{over}
 use Rattle.printing.proofs.walks.+write_from.Given as goal
 
-abbrev pub decreases-write-from : goal.decreases-write-from
-decreases-write-from l = size (rest l.from (kids l.tree.now))
+abbrev pub decreases-write_from : goal.decreases-write_from
+decreases-write_from l = size (rest l.from (kids l.tree.now))
 
 abbrev pub invariant-loop-step : goal.invariant-loop-step
 invariant-loop-step l =

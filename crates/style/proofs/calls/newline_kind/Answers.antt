@@ -9,7 +9,7 @@ use Rattle.style.proofs.calls.newline_kind.Goals as goal
 
 pub returns : goal.returns
 returns c =
-    let t = c.in-ok-tree.tree.now in
+    let t = c.in_ok-tree.tree.now in
     let n = length c.args.queue.now in
-    let l : (state t).records ≤ n = true-leb (state t).records n c.if-not-has-room.ensures in
-    ap Given c.newline-kind-in.ensures ∙ sym (enough c.args.document.now t c.in-ok-tree.ensures (λ s. Given (newline_kind s.kids)) n l)
+    let l : (state t).records ≤ n = true-leb (state t).records n c.if-not-has_room.ensures in
+    ap Given c.newline_kind_in.ensures ∙ sym (enough c.args.document.now t c.in_ok-tree.ensures (λ s. Given (newline_kind s.kids)) n l)

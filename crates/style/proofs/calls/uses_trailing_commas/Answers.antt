@@ -11,19 +11,19 @@ use Rattle.style.proofs.calls.uses_trailing_commas.Goals as goal
 abbrev uses : Spot → Bool
 uses s = uses_trailing_commas (sort_of s) s.kids
 
-pub returns-in-err-place : goal.returns-in-err-place
-returns-in-err-place c =
-    let t = c.in-ok-tree.tree.now in
+pub returns-in_err-place : goal.returns-in_err-place
+returns-in_err-place c =
+    let t = c.in_ok-tree.tree.now in
     let n = length c.args.queue.now in
-    let l : (state t).records ≤ n = true-leb (state t).records n c.if-not-has-room.ensures in
-    let m = c.in-err-place.ensures in
-    gone_exit c.args.document.now t c.in-ok-tree.ensures (handle_for c.args.handle) uses n l
-    c.from-residual-in-err-place.result c.in-err-place.field-0.0 c.from-residual-in-err-place.ensures.1 m.0 m.1
+    let l : (state t).records ≤ n = true-leb (state t).records n c.if-not-has_room.ensures in
+    let m = c.in_err-place.ensures in
+    gone_exit c.args.document.now t c.in_ok-tree.ensures (handle_for c.args.handle) uses n l
+    c.from_residual-in_err-place.result c.in_err-place.field-0.0 c.from_residual-in_err-place.ensures.1 m.0 m.1
 
 pub returns : goal.returns
 returns c =
-    let t = c.in-ok-tree.tree.now in
+    let t = c.in_ok-tree.tree.now in
     let n = length c.args.queue.now in
-    let l : (state t).records ≤ n = true-leb (state t).records n c.if-not-has-room.ensures in
-    here c.args.document.now t c.in-ok-tree.ensures (handle_for c.args.handle) uses n l
-    c.in-ok-place.place c.uses-trailing-commas-in.result c.in-ok-place.ensures.1 c.uses-trailing-commas-in.ensures
+    let l : (state t).records ≤ n = true-leb (state t).records n c.if-not-has_room.ensures in
+    here c.args.document.now t c.in_ok-tree.ensures (handle_for c.args.handle) uses n l
+    c.in_ok-place.place c.uses_trailing_commas_in.result c.in_ok-place.ensures.1 c.uses_trailing_commas_in.ensures

@@ -6,7 +6,7 @@ use Rattle.tree.specs.Trees.{kids}
 use Rattle.style.specs.Commas.{behind_in}
 use Rattle.style.proofs.Members.{member_kept, other_passed}
 use Rattle.style.proofs.commas.last_member.Goals as goal
-use Rattle.style.proofs.commas.last_member.Goals.{in-Value, in-default-class}
+use Rattle.style.proofs.commas.last_member.Goals.{in-Value, in_default-class}
 
 pub loop-at-preserved : goal.loop-at-preserved
 loop-at-preserved c =
@@ -20,14 +20,14 @@ loop-at-preserved c =
     elim c.match-class.branch [
       | in-Value w ↦ (
         c.next-at.ensures.there,
-        subst (λ y. Leads y ks) (sym w.last_is) there,
-        subst (λ y. or_else (behind_last (rest c.next-at.result ks)) (behind_in y ks) ≡ r) (sym w.last_is)
+        subst (λ y. Leads y ks) (sym w.last-is) there,
+        subst (λ y. or_else (behind_last (rest c.next-at.result ks)) (behind_in y ks) ≡ r) (sym w.last-is)
             (member_kept ks p c.next-at.result l r c.next-at.ensures.siblings held (sym c.class.ensures ∙ w.in-Value.is)),
       )
-      | in-default-class w ↦ (
+      | in_default-class w ↦ (
         c.next-at.ensures.there,
-        subst (λ y. Leads y ks) (sym w.last_is) c.loop-at.invariant.1,
-        subst (λ y. or_else (behind_last (rest c.next-at.result ks)) (behind_in y ks) ≡ r) (sym w.last_is)
-            (other_passed ks p c.next-at.result l r c.next-at.ensures.siblings held (λ e. w.in-default-class.not-Value (c.class.ensures ∙ e))),
+        subst (λ y. Leads y ks) (sym w.last-is) c.loop-at.invariant.1,
+        subst (λ y. or_else (behind_last (rest c.next-at.result ks)) (behind_in y ks) ≡ r) (sym w.last-is)
+            (other_passed ks p c.next-at.result l r c.next-at.ensures.siblings held (λ e. w.in_default-class.not-Value (c.class.ensures ∙ e))),
       )
     ]

@@ -23,34 +23,34 @@ loop-asked-init c =
     c.new-waiting.ensures.list c.new-waiting.ensures.start
     (omega (arith, e, below_records c.args.tree.now c.args.place, c.requires.space)) c.push.ensures.test c.push.ensures.list c.requires.there refl
 
-pub returns-in-Some-decision-at : goal.returns-in-Some-decision-at
-returns-in-Some-decision-at c =
+pub returns-in-Some-decision_at : goal.returns-in-Some-decision_at
+returns-in-Some-decision_at c =
     let ks = kids c.args.tree.now in
-    sym (ap (λ y. or_given y false) (waiting_hit ks decides (first c.args.place ks) c.in-Some.asked c.loop-asked.waiting c.pop-front.new.self
-    c.loop-asked.invariant c.in-Some.ensures c.in-Some-decision-at.used c.in-Some-decision-at.ensures))
+    sym (ap (λ y. or_given y false) (waiting_hit ks decides (first c.args.place ks) c.in-Some.asked c.loop-asked.waiting c.pop_front.new.self
+    c.loop-asked.invariant c.in-Some.ensures c.in-Some-decision_at.used c.in-Some-decision_at.ensures))
 
-pub push-children-requires : goal.push-children-requires
-push-children-requires c =
+pub push_children-requires : goal.push_children-requires
+push_children-requires c =
     let ks = kids c.args.tree.now in
     let r = first c.args.place ks in
     record {
-      there = waiting_stands ks decides r c.in-Some.asked c.loop-asked.waiting c.pop-front.new.self c.loop-asked.invariant c.in-Some.ensures;
-      space = waiting_room ks decides r c.in-Some.asked c.loop-asked.waiting c.pop-front.new.self c.loop-asked.invariant c.in-Some.ensures;
+      there = waiting_stands ks decides r c.in-Some.asked c.loop-asked.waiting c.pop_front.new.self c.loop-asked.invariant c.in-Some.ensures;
+      space = waiting_room ks decides r c.in-Some.asked c.loop-asked.waiting c.pop_front.new.self c.loop-asked.invariant c.in-Some.ensures;
     }
 
 pub loop-asked-smaller : goal.loop-asked-smaller
 loop-asked-smaller c =
     let ks = kids c.args.tree.now in
-    waiting_less ks decides (first c.args.place ks) c.in-Some.asked c.loop-asked.waiting c.pop-front.new.self c.loop-asked.invariant
-    c.in-Some.ensures c.push-children.new.queue c.push-children.ensures
+    waiting_less ks decides (first c.args.place ks) c.in-Some.asked c.loop-asked.waiting c.pop_front.new.self c.loop-asked.invariant
+    c.in-Some.ensures c.push_children.new.queue c.push_children.ensures
 
 pub loop-asked-preserved : goal.loop-asked-preserved
 loop-asked-preserved c =
     let ks = kids c.args.tree.now in
-    waiting_miss ks decides (first c.args.place ks) c.in-Some.asked c.loop-asked.waiting c.pop-front.new.self c.loop-asked.invariant
-    c.in-Some.ensures c.push-children.new.queue c.push-children.ensures c.in-default-decision-at.ensures
+    waiting_miss ks decides (first c.args.place ks) c.in-Some.asked c.loop-asked.waiting c.pop_front.new.self c.loop-asked.invariant
+    c.in-Some.ensures c.push_children.new.queue c.push_children.ensures c.in_default-decision_at.ensures
 
 pub returns : goal.returns
 returns c =
     let ks = kids c.args.tree.now in
-    sym (ap (λ y. or_given y false) (waiting_none ks decides (first c.args.place ks) c.loop-asked.waiting c.loop-asked.invariant c.in-default.ensures.0))
+    sym (ap (λ y. or_given y false) (waiting_none ks decides (first c.args.place ks) c.loop-asked.waiting c.loop-asked.invariant c.in_default.ensures.0))

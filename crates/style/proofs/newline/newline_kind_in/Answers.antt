@@ -24,35 +24,35 @@ loop-place-init c =
     waiting_start ks breaks (first_of (layers breaks ks)) 0 v c.push.new.self c.push.result c.new-waiting.ensures.list c.new-waiting.ensures.start
     (omega (arith, e, below_records c.args.tree.now 0, c.requires)) c.push.ensures.test c.push.ensures.list (omega arith) (root_first ks)
 
-pub returns-in-Some-newline-at : goal.returns-in-Some-newline-at
-returns-in-Some-newline-at c =
+pub returns-in-Some-newline_at : goal.returns-in-Some-newline_at
+returns-in-Some-newline_at c =
     let ks = kids c.args.tree.now in
     let r = first_of (layers breaks ks) in
-    sym (ap (λ y. or_given y LineFeed) (waiting_hit ks breaks r c.in-Some.place c.loop-place.waiting c.pop-front.new.self c.loop-place.invariant c.in-Some.ensures
-    (kind_for c.in-Some-newline-at.newline) c.in-Some-newline-at.ensures))
+    sym (ap (λ y. or_given y LineFeed) (waiting_hit ks breaks r c.in-Some.place c.loop-place.waiting c.pop_front.new.self c.loop-place.invariant c.in-Some.ensures
+    (kind_for c.in-Some-newline_at.newline) c.in-Some-newline_at.ensures))
 
-pub push-children-requires : goal.push-children-requires
-push-children-requires c =
+pub push_children-requires : goal.push_children-requires
+push_children-requires c =
     let ks = kids c.args.tree.now in
     let r = first_of (layers breaks ks) in
     record {
-      there = waiting_stands ks breaks r c.in-Some.place c.loop-place.waiting c.pop-front.new.self c.loop-place.invariant c.in-Some.ensures;
-      space = waiting_room ks breaks r c.in-Some.place c.loop-place.waiting c.pop-front.new.self c.loop-place.invariant c.in-Some.ensures;
+      there = waiting_stands ks breaks r c.in-Some.place c.loop-place.waiting c.pop_front.new.self c.loop-place.invariant c.in-Some.ensures;
+      space = waiting_room ks breaks r c.in-Some.place c.loop-place.waiting c.pop_front.new.self c.loop-place.invariant c.in-Some.ensures;
     }
 
 pub loop-place-smaller : goal.loop-place-smaller
 loop-place-smaller c =
     let ks = kids c.args.tree.now in
-    waiting_less ks breaks (first_of (layers breaks ks)) c.in-Some.place c.loop-place.waiting c.pop-front.new.self c.loop-place.invariant c.in-Some.ensures
-    c.push-children.new.queue c.push-children.ensures
+    waiting_less ks breaks (first_of (layers breaks ks)) c.in-Some.place c.loop-place.waiting c.pop_front.new.self c.loop-place.invariant c.in-Some.ensures
+    c.push_children.new.queue c.push_children.ensures
 
 pub loop-place-preserved : goal.loop-place-preserved
 loop-place-preserved c =
     let ks = kids c.args.tree.now in
-    waiting_miss ks breaks (first_of (layers breaks ks)) c.in-Some.place c.loop-place.waiting c.pop-front.new.self c.loop-place.invariant c.in-Some.ensures
-    c.push-children.new.queue c.push-children.ensures c.in-default-newline-at.ensures
+    waiting_miss ks breaks (first_of (layers breaks ks)) c.in-Some.place c.loop-place.waiting c.pop_front.new.self c.loop-place.invariant c.in-Some.ensures
+    c.push_children.new.queue c.push_children.ensures c.in_default-newline_at.ensures
 
 pub returns : goal.returns
 returns c =
     let ks = kids c.args.tree.now in
-    sym (ap (λ y. or_given y LineFeed) (waiting_none ks breaks (first_of (layers breaks ks)) c.loop-place.waiting c.loop-place.invariant c.in-default.ensures.0))
+    sym (ap (λ y. or_given y LineFeed) (waiting_none ks breaks (first_of (layers breaks ks)) c.loop-place.waiting c.loop-place.invariant c.in_default.ensures.0))

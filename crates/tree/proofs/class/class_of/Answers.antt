@@ -5,4 +5,4 @@ use Rattle.tree.specs.Classes.{plain}
 use Rattle.tree.proofs.class.class_of.Goals as goal
 
 pub returns-in-Token : goal.returns-in-Token
-returns-in-Token c t = c.token-class.ensures t ∙ ap (λ k. plain (class (sort_for k t))) (sym c.in-Token.is)
+returns-in-Token c t = c.token_class.ensures t ∙ ap (λ k. plain (class (sort_for k t))) (sym c.in-Token.is)

@@ -27,7 +27,7 @@ loop-child-preserved c = (
 
 pub returns : goal.returns
 returns c =
-    let m = all_gone c.loop-child.table c.in-default.ensures in
+    let m = all_gone c.loop-child.table c.in_default.ensures in
     record {
       forest = m.0 ∙ c.loop-child.invariant.0;
       given = ap (λ y. reverse y ++ free c.loop-child.table) (sym m.1) ∙ c.loop-child.invariant.1;

@@ -6,9 +6,9 @@ use Rattle.document.proofs.Asked.{plainly}
 use Rattle.document.proofs.document.Document.root.Goals as goal
 
 pub handle-requires : goal.handle-requires
-handle-requires c = root_stands c.in-ok-tree.tree.now
+handle-requires c = root_stands c.in_ok-tree.tree.now
 
 pub returns : goal.returns
 returns c =
-    ap Given (c.handle.ensures ∙ root_handle_lem c.in-ok-tree.tree.now)
-    ∙ sym (plainly c.args.self.now c.in-ok-tree.tree.now c.in-ok-tree.ensures (λ s. Given root_handle))
+    ap Given (c.handle.ensures ∙ root_handle_lem c.in_ok-tree.tree.now)
+    ∙ sym (plainly c.args.self.now c.in_ok-tree.tree.now c.in_ok-tree.ensures (λ s. Given root_handle))

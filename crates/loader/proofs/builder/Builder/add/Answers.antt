@@ -4,15 +4,18 @@ use Rattle.table.proofs.Seen.{tree_size, records_few}
 use Rattle.loader.proofs.Standing.{still_there}
 use Rattle.loader.proofs.builder.Builder.add.Goals as goal
 
-pub overflow-cast-own : goal.overflow-cast-own
-overflow-cast-own c = omega (arith, c.living.ensures, tree_size c.args.self.now.table, records_few c.args.self.now.table)
+pub overflow_cast-own : goal.overflow_cast-own
+overflow_cast-own c = omega (arith, c.living.ensures, tree_size c.args.self.now.table, records_few c.args.self.now.table)
 
-pub overflow-add-own : goal.overflow-add-own
-overflow-add-own c = omega (arith, c.living.ensures, tree_size c.args.self.now.table, records_few c.args.self.now.table)
+pub overflow_add-own : goal.overflow_add-own
+overflow_add-own c = omega (arith, c.living.ensures, tree_size c.args.self.now.table, records_few c.args.self.now.table)
 
-pub invariant-of-self : goal.invariant-of-self
-invariant-of-self c =
-    let b = c.args.self.now in (
-      still_there b.table c.append.new.self b.at c.append.result _ b.there c.append.ensures.forest b.at b.there,
-      (omega (arith, c.push-all.ensures.len), (omega (arith, c.push-all.ensures.capacity, b.roomy), (b.large, tt))),
-    )
+pub invariant_of-self : goal.invariant_of-self
+invariant_of-self c =
+    let b = c.args.self.now in
+    record {
+      there = still_there b.table c.append.new.self b.at c.append.result _ b.there c.append.ensures.forest b.at b.there;
+      used = omega (arith, c.push_all.ensures.len);
+      roomy = omega (arith, c.push_all.ensures.capacity, b.roomy);
+      large = b.large;
+    }

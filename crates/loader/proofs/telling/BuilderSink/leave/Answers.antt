@@ -4,15 +4,20 @@ use Rattle.loader.specs.Sites.{Built, site_of, turned}
 use Rattle.loader.proofs.Standing.{parent_there}
 use Rattle.loader.proofs.telling.BuilderSink.leave.Goals as goal
 
-pub invariant-of-self : goal.invariant-of-self
-invariant-of-self c =
+pub invariant_of-self : goal.invariant_of-self
+invariant_of-self c =
     let b = c.args.self.now in
-    (parent_there b.table b.at c.in-Some.parent b.there (sym c.parent.ensures ∙ c.in-Some.is), (b.used, (b.roomy, (b.large, tt))))
+    record {
+      there = parent_there b.table b.at c.in-Some.parent b.there (sym c.parent.ensures ∙ c.in-Some.is);
+      used = b.used;
+      roomy = b.roomy;
+      large = b.large;
+    }
 
 pub returns-in-Some : goal.returns-in-Some
 unfolding Built
 returns-in-Some c = ap (λ y. turned (site_of c.args.self.now) y) (sym c.in-Some.is ∙ c.parent.ensures)
 
-pub returns-in-default : goal.returns-in-default
+pub returns-in_default : goal.returns-in_default
 unfolding Built
-returns-in-default c = ap (λ y. turned (site_of c.args.self.now) y) (sym c.in-default.is ∙ c.parent.ensures)
+returns-in_default c = ap (λ y. turned (site_of c.args.self.now) y) (sym c.in_default.is ∙ c.parent.ensures)

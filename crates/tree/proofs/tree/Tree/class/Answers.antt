@@ -4,4 +4,4 @@ use Rattle.tree.specs.Classes.{plain}
 use Rattle.tree.proofs.tree.Tree.class.Goals as goal
 
 pub returns : goal.returns
-returns c = (let m = c.kind.ensures in c.class-of.ensures m.0 ∙ ap (λ y. plain (class y)) m.1)
+returns c = (let m = c.kind.ensures in c.class_of.ensures m.0 ∙ ap (λ y. plain (class y)) m.1)

@@ -14,8 +14,8 @@ returns-then-self c =
       state = λ w. sym (ap (after_outcome (state t)) (clear_worn (state t) w z.0 z.1 z.2 c.if-self.true));
     }
 
-pub invariant-of-self : goal.invariant-of-self
-invariant-of-self c = (∣ cleared_well c.args.self.now c.cut-all.new.table c.cut-all.ensures.forest c.cut-all.ensures.given ∣₁, tt)
+pub invariant_of-self : goal.invariant_of-self
+invariant_of-self c = record { ok = ∣ cleared_well c.args.self.now c.cut_all.new.table c.cut_all.ensures.forest c.cut_all.ensures.given ∣₁ }
 
 pub returns : goal.returns
 returns c =
@@ -23,6 +23,6 @@ returns c =
     let z = clear_sizes t in
     record {
       answer = λ w. sym (ap (λ o. and_then o (λ x. Given (answers {S = Value} (state t) Clear x))) (clear_goes (state t) w z.0 z.1 z.2 (omega arith)));
-      state = λ w. cleared_state t c.cut-all.new.table c.cut-all.ensures.forest c.cut-all.ensures.given
+      state = λ w. cleared_state t c.cut_all.new.table c.cut_all.ensures.forest c.cut_all.ensures.given
           ∙ sym (ap (after_outcome (state t)) (clear_goes (state t) w z.0 z.1 z.2 (omega arith)));
     }

@@ -40,7 +40,7 @@ pub returns-in-Null : goal.returns-in-Null
 returns-in-Null c = spelt_is c.args.self.now c.args.place c.requires c.own-own.result c.own-own.ensures Null c.in-Null.is
 
 pub returns-in-Boolean : goal.returns-in-Boolean
-returns-in-Boolean c = c.boolean-bytes.ensures ∙ spelt_is c.args.self.now c.args.place c.requires c.own-own.result c.own-own.ensures (Boolean c.in-Boolean.value) c.in-Boolean.is
+returns-in-Boolean c = c.boolean_bytes.ensures ∙ spelt_is c.args.self.now c.args.place c.requires c.own-own.result c.own-own.ensures (Boolean c.in-Boolean.value) c.in-Boolean.is
 
 pub returns-in-Number : goal.returns-in-Number
 returns-in-Number c = c.stored.ensures ∙ spelt_is c.args.self.now c.args.place c.requires c.own-own.result c.own-own.ensures Number c.in-Number.is
@@ -52,13 +52,13 @@ pub returns-in-Name : goal.returns-in-Name
 returns-in-Name c = c.stored-in-Name.ensures ∙ spelt_is c.args.self.now c.args.place c.requires c.own-own.result c.own-own.ensures Name c.in-Name.is
 
 pub returns-in-Token : goal.returns-in-Token
-returns-in-Token c = c.token-bytes.ensures ∙ spelt_is c.args.self.now c.args.place c.requires c.own-own.result c.own-own.ensures (Token c.in-Token.token) c.in-Token.is
+returns-in-Token c = c.token_bytes.ensures ∙ spelt_is c.args.self.now c.args.place c.requires c.own-own.result c.own-own.ensures (Token c.in-Token.token) c.in-Token.is
 
 pub returns-in-Whitespace : goal.returns-in-Whitespace
 returns-in-Whitespace c = c.stored-in-Whitespace.ensures ∙ spelt_is c.args.self.now c.args.place c.requires c.own-own.result c.own-own.ensures Whitespace c.in-Whitespace.is
 
 pub returns-in-Newline : goal.returns-in-Newline
-returns-in-Newline c = c.newline-bytes.ensures ∙ spelt_is c.args.self.now c.args.place c.requires c.own-own.result c.own-own.ensures (Newline c.in-Newline.newline) c.in-Newline.is
+returns-in-Newline c = c.newline_bytes.ensures ∙ spelt_is c.args.self.now c.args.place c.requires c.own-own.result c.own-own.ensures (Newline c.in-Newline.newline) c.in-Newline.is
 
 pub returns-in-LineComment : goal.returns-in-LineComment
 returns-in-LineComment c = c.stored-in-LineComment.ensures ∙ spelt_is c.args.self.now c.args.place c.requires c.own-own.result c.own-own.ensures LineComment c.in-LineComment.is
