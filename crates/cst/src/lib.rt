@@ -1,4 +1,5 @@
 //! House files as documents: load, ask, edit, print. Every call is total: it answers, or hands back one refusal and changes nothing.
+#![tactic(auto)]
 
 pub use document::Document;
 pub use loader::LoadError;

@@ -1,15 +1,15 @@
 -- What a question answers of what is loaded: of a handle that is Gone, and of one that names a node.
-use Rattle.std.proofs.Common.{◌≡◌, ℕ, ◌<◌, Bool, true, false, cond, eqb, [], IsErrAnd, Some, None, Ok, Err, Option, Result, sym, ap, ◌∙◌, subst, arith}
+use Rattle.std.proofs.Common.{◌≡◌, ℕ, ◌<◌, false, IsErrAnd, Some, None, Err, Result, sym, ap, ◌∙◌, arith}
 use Rattle.std.proofs.lemmas.Result.{err_from_is_err_and}
 use Rattle.std.proofs.lemmas.Bool.{ne_eqb, cond-false}
-use Rattle.forest.specs.Forest.{size, node}
+use Rattle.forest.specs.Forest.{size}
 use Rattle.refusal.specs.declared.Refusal.{Refusal}
 use Rattle.refusal.specs.declared.Refusal.TheVariants.{BadMemory, Gone}
 use Rattle.table.specs.Tables as table
 use Rattle.table.proofs.Seen as of-table
 use Rattle.model.specs.Nodes.{Handle}
 use Rattle.model.specs.Asks.{Spot, named}
-use Rattle.model.specs.State.{Outcome, Refused, Given, State, unless, and_then, present, unloaded, spotted, asking}
+use Rattle.model.specs.State.{Outcome, Refused, State, unless, and_then, present, unloaded, spotted, asking}
 use Rattle.tree.specs.declared.tree.Tree.{Tree}
 use Rattle.tree.specs.Trees.{kids, state}
 use Rattle.tree.specs.Steps.{spot_of}

@@ -1,11 +1,10 @@
 -- A run of calls on documents is a run of states, so that the promise of the definitions is kept.
-use Rattle.std.proofs.Common.{◌≡◌, ℕ, suc, ◌≤◌, List, [], ◌∷◌, sym, refl, ap, ◌∙◌, subst, arith}
+use Rattle.std.proofs.Common.{◌≡◌, ℕ, List, sym, ap, ◌∙◌, subst, arith}
 use Rattle.grammar.specs.Pieces.{Pieces, print as print_pieces}
 use Rattle.grammar.specs.Answer.{Answer, Read, read, Judged, good, bad_text, too_deep}
 use Rattle.grammar.proofs.Whole.{right}
-use Rattle.model.specs.Nodes.{print, loaded}
 use Rattle.model.specs.Written.{Value}
-use Rattle.model.specs.State.{State, Given, load, loaded_state}
+use Rattle.model.specs.State.{State, Given, load}
 use Rattle.model.specs.Account.{Call}
 use Rattle.model.specs.Promise.{printing, Run, Meant, meant}
 use Rattle.model.specs.Promise as promise

@@ -1,7 +1,6 @@
 -- What a document holds, and how an answer is told. Assumes nothing.
-use Rattle.std.specs.Prelude.{◌≡◌, Some, None, Ok, Err, Option, Result}
+use Rattle.std.specs.Prelude.{Some, None, Ok, Err, Option, Result}
 use Rattle.refusal.specs.declared.Refusal.{Refusal}
-use Rattle.refusal.specs.declared.Refusal.TheVariants.{BadMemory}
 use Rattle.model.specs.State.{Outcome, Given, Refused, State, blank_state}
 use Rattle.tree.specs.declared.tree.Tree.{Tree}
 use Rattle.tree.specs.Trees.{state}

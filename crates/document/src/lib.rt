@@ -1,4 +1,5 @@
 //! The document: what is loaded, and who is asked for by a handle.
+#![tactic(auto)]
 
 mod asks;
 mod document;

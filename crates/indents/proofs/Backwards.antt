@@ -1,5 +1,5 @@
 -- A buffer filled from the end of a part backwards. Assumes nothing.
-use Rattle.std.proofs.Common.{◌≡◌, ℕ, ◌+◌, ◌≤◌, List, [], ◌++◌, length, take, drop, sym, refl, ap, ◌∙◌, subst, append_assoc, arith, length-append, length-take-le}
+use Rattle.std.proofs.Common.{◌≡◌, ℕ, ◌+◌, ◌≤◌, List, [], ◌++◌, length, take, drop, sym, ap, ◌∙◌, append_assoc, arith, length-append, length-take-le}
 use lib.Seq.{drop-append-add}
 use Rattle.printing.specs.Buffers.{over}
 use Rattle.printing.proofs.Written.{over_none}

@@ -1,10 +1,9 @@
 -- What is gathered on the way back over siblings. Assumes nothing.
-use Rattle.std.proofs.Common.{◌≡◌, ℕ, ◌+◌, Bool, true, false, cond, List, [], ◌++◌, length, Some, None, Option, sym, refl, ap, ◌∙◌, subst, append_assoc, length-append}
+use Rattle.std.proofs.Common.{◌≡◌, ℕ, ◌+◌, true, false, List, [], ◌++◌, length, Some, None, Option, sym, refl, ap, ◌∙◌, append_assoc, length-append}
 use Rattle.std.specs.Option.{option_or}
 use Rattle.std.proofs.lemmas.Bool.{cond-true, cond-false}
 use Rattle.grammar.specs.Layout as said
-use Rattle.forest.specs.Forest.{end, node}
-use Rattle.model.specs.Nodes.{Nodes, Gap, blank, break, remark, Class, gap, mark, value, class}
+use Rattle.model.specs.Nodes.{Nodes, blank, break, remark, Class, gap, mark, value, class}
 use Rattle.model.specs.Asks.{spelt, is_blank, gather, indent_at, indent_from}
 use Rattle.tree.specs.Steps.{spot_of, Leads, back}
 use Rattle.indents.specs.Blanks.{blanks, blanks_from}

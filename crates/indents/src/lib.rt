@@ -1,4 +1,5 @@
 //! Indents: of a node, and the single indentation of a text.
+#![tactic(auto)]
 
 mod asks;
 mod blanks;

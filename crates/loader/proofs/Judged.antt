@@ -2,7 +2,7 @@
 use Rattle.std.proofs.Common.{◌≡◌, ℕ, suc, ◌<◌, ◌≤◌, false, cond, ltb, List, [], ◌∷◌, length, Ok, Err, Result, sym, refl, ap, ◌∙◌, subst, arith}
 use Rattle.std.proofs.lemmas.Bool.{lt-ltb, le-ltb}
 use Rattle.refusal.specs.declared.Refusal.{Refusal}
-use Rattle.refusal.specs.declared.Refusal.TheVariants.{BadText, TooDeep, NoNode, NoText, Gone, NotHere, Worn, Short, BadTable, BadMemory}
+use Rattle.refusal.specs.declared.Refusal.TheVariants.{BadText, TooDeep, NoNode, NoText, BadMemory}
 use Rattle.grammar.specs.Parse.{ok, bad, deep, Res, res}
 use Rattle.grammar.specs.Pieces.{Pieces, nodes, stored}
 use Rattle.grammar.specs.Reader.{text_p}

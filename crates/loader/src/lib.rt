@@ -1,5 +1,6 @@
 //! A text into a tree. All memory is asked for before the text is read, and a text is built only after it was judged, so that the
 //! building itself cannot fail.
+#![tactic(auto)]
 
 mod builder;
 mod building;

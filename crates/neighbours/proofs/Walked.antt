@@ -1,8 +1,7 @@
 -- One turn of each walk along siblings. Assumes nothing.
-use Rattle.std.proofs.Common.{◌≡◌, ℕ, zero, suc, ◌+◌, ◌-◌, ◌<◌, Bool, true, false, cond, List, [], ◌∷◌, Some, None, Option, sym, refl, ap, ◌∙◌, subst, arith}
+use Rattle.std.proofs.Common.{◌≡◌, ℕ, suc, ◌-◌, true, false, List, [], ◌∷◌, Some, None, Option, sym, refl, ap, ◌∙◌, arith}
 use Rattle.std.proofs.lemmas.Bool.{cond-true, cond-false}
 use Rattle.grammar.specs.Layout as said
-use Rattle.forest.specs.Forest.{end, node}
 use Rattle.model.specs.Nodes.{Handle, handle, Nodes, Gap, Class, gap, mark, value, class}
 use Rattle.model.specs.Asks.{Spot, Frame, spot_handle, frame_handle, parent_of, width, child_at, comma_at, trailing, is_comma, is_value, value_in}
 use Rattle.tree.specs.Steps.{spot_of, rest, Up}

@@ -1,4 +1,5 @@
 //! A node's neighbours: parent, siblings and children.
+#![tactic(auto)]
 
 mod asks;
 mod walks;

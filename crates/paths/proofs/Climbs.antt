@@ -2,7 +2,6 @@
 use Rattle.std.proofs.Common.{◌≡◌, ℕ, ◌+◌, ◌-◌, ◌<◌, ◌≤◌, true, false, ◌⊎◌, List, [], ◌∷◌, ◌++◌, length, get_or, drop, set, Some, None, Option, sym, refl, ap, ◌∙◌, inl, inr, append_assoc, arith, length-set}
 use Rattle.std.proofs.lemmas.Bool.{cases_Bool}
 use Rattle.std.proofs.lemmas.List.{drop-set, drop_more}
-use Rattle.forest.specs.Forest.{node}
 use Rattle.model.specs.Nodes.{Handle, Nodes, Class, gap, mark, value, class, handle, pieces, parts, parts_at, label_of}
 use Rattle.model.specs.Asks.{Frame, Spot, is_value, tally, at}
 use Rattle.model.specs.State.{parent_spot}

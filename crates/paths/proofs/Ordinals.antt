@@ -3,7 +3,7 @@ use Rattle.std.proofs.Common.{◌≡◌, ℕ, ◌+◌, ◌≤◌, false, cond, e
 use Rattle.std.proofs.lemmas.Bool.{cond_both}
 use Rattle.grammar.specs.Layout.{levels}
 use Rattle.grammar.specs.Pieces.{layout}
-use Rattle.forest.specs.Forest.{end, node, one, count, size, Distinct}
+use Rattle.forest.specs.Forest.{end, count, size, Distinct}
 use Rattle.model.specs.Nodes.{root, Nodes, value, class, pieces, parts}
 use Rattle.model.specs.Asks.{Frame, Spot, tree, spot_in, spot_at, sort_of, spot_handle, is_value, tally, from_root, path_to, path}
 use Rattle.model.specs.State.{levels_of}

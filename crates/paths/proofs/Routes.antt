@@ -4,7 +4,7 @@ use mathlib.Core.Bool.{false≢true}
 use Rattle.std.proofs.lemmas.Bool.{cond_both, eqb-true}
 use Rattle.grammar.specs.Layout.{raised}
 use Rattle.grammar.specs.Pieces.{Box, array, object, property}
-use Rattle.forest.specs.Forest.{end, node, one, count, size}
+use Rattle.forest.specs.Forest.{end, node, count, size}
 use Rattle.forest.proofs.Frames.{one_eq}
 use Rattle.model.specs.Nodes.{Handle, handle, within, Own, Nodes, Class, gap, mark, value, class, pieces, parts, parts_at, label_of}
 use Rattle.model.specs.Asks.{Frame, Spot, spot_in, sort_of, spot_handle, is_value, bracketed, tally, at, inside, behind, or_else, way_to}

@@ -1,8 +1,6 @@
 -- What is printed from a step on, and how much that is at most.
-use Rattle.std.proofs.Common.{◌≡◌, ℕ, suc, ◌+◌, ◌*◌, ◌<◌, ◌≤◌, min, Bool, true, false, cond, eqb, ltb, ◌⊎◌, List, [], ◌∷◌, ◌++◌, length, take, drop, Some, None, vec_items, Option, sym, refl, ap, ◌∙◌, subst, inl, inr, arith, length-append, length-drop, length-take}
+use Rattle.std.proofs.Common.{◌≡◌, ℕ, ◌+◌, ◌*◌, ◌<◌, ◌≤◌, true, false, cond, eqb, ltb, List, [], ◌∷◌, ◌++◌, length, drop, Some, None, vec_items, Option, sym, refl, ap, ◌∙◌, subst, arith, length-append, length-drop, length-take}
 use Rattle.std.proofs.lemmas.Bool.{cond_both}
-use Rattle.grammar.specs.Layout as said
-use Rattle.grammar.specs.Pieces as of
 use Rattle.forest.specs.Forest.{Forest, end, node, size, map}
 use Rattle.table.specs.declared.kind.Kind.{Kind}
 use Rattle.table.specs.declared.kind.Kind.TheVariants.{Root, Array, Object, Property, Null, Boolean, Number, String, Name, Token, Whitespace, Newline, LineComment, BlockComment}
@@ -11,12 +9,12 @@ use Rattle.table.specs.declared.node.Own as record_of
 use Rattle.table.specs.Tables as table
 use Rattle.table.proofs.Seen as of-table
 use Rattle.model.specs.Nodes.{Sort, root, within, single, Own, Nodes, print}
-use Rattle.model.specs.Asks.{Frame, Spot, spot_in, spot_at, sort_of, tree, spelt}
+use Rattle.model.specs.Asks.{Frame, Spot, spot_in, sort_of, tree, spelt}
 use Rattle.tree.specs.declared.tree.Tree.{Tree}
-use Rattle.tree.specs.Sorts.{sort_for, own_for, bytes_in, break_for}
+use Rattle.tree.specs.Sorts.{sort_for, own_for, bytes_in}
 use Rattle.tree.specs.Well.{whole}
 use Rattle.tree.specs.Trees.{kids}
-use Rattle.tree.specs.Steps.{is_box, spot_of, Stands, Leads, rest}
+use Rattle.tree.specs.Steps.{is_box, spot_of, Leads, rest}
 use Rattle.tree.proofs.Spots.{spot_stands}
 use Rattle.tree.proofs.Seen.{rooted, distinct, store_few}
 use Rattle.printing.specs.Inner.{inside}

@@ -1,5 +1,5 @@
 -- One write after another. Assumes nothing.
-use Rattle.std.proofs.Common.{◌≡◌, ℕ, zero, suc, ◌+◌, ◌-◌, ◌<◌, ◌≤◌, List, [], ◌∷◌, ◌++◌, length, take, drop, sym, refl, ap, ◌∙◌, subst, append_assoc, append-nil, arith, length-append, length-drop, length-take, length-take-le, drop-drop, take_at}
+use Rattle.std.proofs.Common.{◌≡◌, ℕ, ◌+◌, ◌-◌, ◌≤◌, List, [], ◌++◌, length, take, drop, sym, ap, ◌∙◌, append_assoc, arith, length-append, length-drop, length-take, length-take-le, drop-drop, take_at}
 use lib.Seq.{drop-append-add}
 use borrow.Rule.Slice.PartMut.{put_mid, post_of, Post-is}
 use Rattle.std.proofs.lemmas.List.{take-append-drop}

@@ -1,4 +1,5 @@
 //! Printing: every leaf's bytes in order.
+#![tactic(auto)]
 
 mod asks;
 pub mod buffers;

@@ -1,9 +1,7 @@
 -- One call more, and the run of states that the calls lead through.
-use Rattle.std.proofs.Common.{◌≡◌, ℕ, suc, ◌+◌, ◌-◌, ◌<◌, ◌≤◌, List, [], ◌∷◌, ◌++◌, length, get_or, take, drop, set, sym, refl, ap, ◌∙◌, subst, append_assoc, append-nil, add-one, arith, length-append, length-take, length-take-le}
-use Rattle.std.proofs.lemmas.List.{take_more, take_all, set_split, take_at, drop_at, drop-drop, length-drop}
-use Rattle.model.specs.State.{State}
-use Rattle.model.specs.Account as account
-use Rattle.model.specs.Promise.{Meant, meant, Run, over, goes, after_call}
+use Rattle.std.proofs.Common.{◌≡◌, ℕ, suc, ◌+◌, ◌-◌, ◌<◌, ◌≤◌, List, [], ◌∷◌, ◌++◌, length, get_or, take, drop, set, sym, refl, ap, ◌∙◌, subst, append_assoc, add-one, arith, length-append, length-take-le}
+use Rattle.std.proofs.lemmas.List.{take_more, set_split, take_at, drop_at, drop-drop, length-drop}
+use Rattle.model.specs.Promise.{meant, Run, over, goes, after_call}
 use Rattle.document.specs.declared.document.Document.{Document}
 use Rattle.document.specs.Documents.{state_of}
 use Rattle.replay.specs.declared.call.Call.{Call}

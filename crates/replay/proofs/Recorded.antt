@@ -1,5 +1,5 @@
 -- What is recorded is what the definitions answer. Assumes nothing.
-use Rattle.std.proofs.Common.{◌≡◌, ℕ, List, length, Ok, Err, Option, Result, sym, refl, ap, ◌∙◌, arith}
+use Rattle.std.proofs.Common.{◌≡◌, ℕ, List, length, Ok, Err, Option, Result, ap, arith}
 use Rattle.refusal.specs.declared.Refusal.{Refusal}
 use Rattle.model.specs.Nodes.{Handle}
 use Rattle.model.specs.State.{Outcome, Given, Refused}

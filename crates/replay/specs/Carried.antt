@@ -1,5 +1,5 @@
 -- What a list of calls makes of a document and of the buffers that are lent, and what is recorded of each. Assumes nothing.
-use Rattle.std.specs.Prelude.{ℕ, List, [], ◌∷◌, ◌++◌, length, drop, Some, None, Option}
+use Rattle.std.specs.Prelude.{ℕ, List, [], ◌∷◌, length, None, Option}
 use Rattle.table.specs.declared.node.Handle as declared
 use Rattle.model.specs.Nodes.{Handle}
 use Rattle.model.specs.Asks as asks

@@ -1,4 +1,5 @@
 //! Replaying: a text is loaded, and a list of calls is carried out on it.
+#![tactic(auto)]
 
 mod answers;
 mod call;

@@ -1,6 +1,7 @@
 //! The questions that are asked level by level: which line break a document uses, and whether a container uses trailing commas.
 //!
 //! Each walks the tree with a queue of places: the first place is taken and asked, and its children are put behind.
+#![tactic(auto)]
 
 mod calls;
 mod children;

@@ -1,8 +1,8 @@
 -- What a node's class is, from what code tells of it. Assumes nothing.
-use Rattle.std.proofs.Common.{◌≡◌, ℕ, Bool, true, false, refl, arith}
+use Rattle.std.proofs.Common.{◌≡◌, ℕ, false, refl, arith}
 use Rattle.grammar.specs.Layout as said
-use Rattle.model.specs.Nodes.{Gap, blank, break, remark, Class, gap, mark, value}
-use Rattle.model.specs.Asks.{is_comma, is_gap, is_value, is_blank, is_break}
+use Rattle.model.specs.Nodes.{blank, break, remark, Class, gap, mark, value}
+use Rattle.model.specs.Asks.{is_comma}
 use Rattle.tree.specs.declared.class.Class.TheVariants.{Blank, Break, Remark, Comma, Mark, Value}
 use Rattle.tree.specs.Classes.{plain}
 

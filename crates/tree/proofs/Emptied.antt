@@ -1,7 +1,6 @@
 -- One child of the root goes, and what is left when all have gone.
-use mathlib.Core.HLevel.{×_prop}
 use mathlib.Core.Logic.{∥∥₁_elim}
-use Rattle.std.proofs.Common.{◌≡◌, ℕ, suc, ◌+◌, ◌<◌, ◌≤◌, Bool, true, false, cond, ◌||◌, eqb, ltb, List, [], ◌∷◌, ◌++◌, reverse, length, Some, None, vec_items, vec_len, vec_capacity, Option, sym, refl, ap, ◌∙◌, subst, append_assoc, arith, length-append}
+use Rattle.std.proofs.Common.{◌≡◌, ℕ, suc, ◌+◌, ◌<◌, ◌≤◌, Bool, true, false, cond, ◌||◌, eqb, ltb, List, [], ◌∷◌, ◌++◌, reverse, length, Some, None, vec_items, vec_len, vec_capacity, sym, refl, ap, ◌∙◌, subst, append_assoc, arith, length-append}
 use mathlib.Core.List.{reverse-append}
 use native.Mathlib.Bridge.{le_prop}
 use Rattle.std.proofs.lemmas.List.{length-reverse}
@@ -20,17 +19,16 @@ use Rattle.table.specs.declared.node.Own as record_of
 use Rattle.table.specs.declared.table.Table.{Table}
 use Rattle.table.specs.Tables as table
 use Rattle.table.proofs.Seen as of-table
-use Rattle.model.specs.Nodes.{Nodes, root, pieces}
+use Rattle.model.specs.Nodes.{pieces}
 use Rattle.model.specs.Asks.{tree}
 use Rattle.model.specs.Fits.{Document}
-use Rattle.model.specs.State.{State, Work, Outcome, Given, Refused, Plan, Clear, accepted, judged, worn, cutting, last, missing, freeing, finished, after, after_outcome, outcome, answers, and_then}
-use Rattle.model.specs.Written.{Value}
+use Rattle.model.specs.State.{State, Work, Given, Refused, Clear, accepted, judged, worn, cutting, missing, freeing, finished}
 use Rattle.tree.specs.declared.tree.Tree.{Tree}
 use Rattle.tree.specs.Cleared.{alone}
 use Rattle.tree.specs.Sorts.{sort_for, bytes_in, own_for, Inside}
 use Rattle.tree.specs.Well.{below, whole, kids_in, Well}
 use Rattle.tree.specs.Trees.{kids, state}
-use Rattle.tree.proofs.Seen.{root_is, rooted, bytes_inside}
+use Rattle.tree.proofs.Seen.{root_is, bytes_inside}
 
 -- the first child of the root: a node of the table, and not the root
 module _ (t : Table) (c : ℕ) (e : Some c ≡ first_in 0 (table.tree t)) where

@@ -1,30 +1,29 @@
 -- What a tree's ghost field says of its nodes, and where the table's links lead in them.
 use mathlib.Core.HLevel.{Unit-prop, ×_prop, ×₃_prop}
-use Rattle.std.proofs.Common.{◌≡◌, ℕ, ◌+◌, ◌<◌, ◌≤◌, Bool, true, false, cond, eqb, ltb, ◌⊎◌, List, [], length, Some, None, vec_items, vec_len, vec_capacity, Option, sym, refl, ap, ◌∙◌, subst, inl, inr, arith}
+use Rattle.std.proofs.Common.{◌≡◌, ℕ, ◌+◌, ◌<◌, ◌≤◌, Bool, false, cond, eqb, ltb, List, [], length, Some, None, vec_items, vec_len, vec_capacity, Option, sym, refl, ap, ◌∙◌, subst, inl, inr, arith}
 use mathlib.Core.Logic.{∥∥₁_elim}
 use native.Mathlib.Nat.{ℕ_set}
 use native.Mathlib.Bridge.{le_prop}
 use base.Stored.{Coded-set}
 use Rattle.std.proofs.lemmas.Bool.{cases_lt, cond-true, cond-false, cond_both, cases_Bool}
-use Rattle.forest.specs.Forest.{Forest, end, node, one, count, map, Distinct}
-use Rattle.forest.specs.Asks.{own_in, parent_in, prev_in, next_in, first_in, index_in, head_of}
+use Rattle.forest.specs.Forest.{Forest, end, node, count, map, Distinct}
+use Rattle.forest.specs.Asks.{own_in, parent_in, prev_in, next_in, first_in, index_in}
 use Rattle.forest.proofs.Maps.{map_count, map_own, map_parent, map_prev, map_next, map_first, map_index}
 use Rattle.forest.proofs.Told.{own_none}
 use Rattle.table.specs.declared.kind.Kind.{Kind}
 use Rattle.table.specs.declared.kind.Kind.TheVariants.{Root, Array, Object, Property, Null, Boolean, Number, String, Name, Token, Whitespace, Newline, LineComment, BlockComment}
 use Rattle.table.specs.contracts.kind.Kind as K
 use Rattle.table.specs.declared.node.Own as record_of
-use Rattle.table.specs.declared.table.Table.{Table}
 use Rattle.table.specs.Tables as table
 use Rattle.table.proofs.Seen as of-table
-use Rattle.model.specs.Nodes.{Handle, handle, Sort, root, Own, Nodes}
-use Rattle.model.specs.Asks.{Frame, Spot, tree, then, spot_at, named, numbered_so, width, spelt, spot_handle, root_handle}
+use Rattle.model.specs.Nodes.{handle, root}
+use Rattle.model.specs.Asks.{Spot, tree, then, named, numbered_so, width, spelt, spot_handle, root_handle}
 use Rattle.tree.specs.declared.tree.Tree.{Tree}
 use Rattle.tree.specs.Sorts.{sort_for, own_for, handle_for, bytes_in, Inside}
 use Rattle.tree.specs.Well.{below, whole, kids_in, Well}
 use Rattle.tree.specs.Trees.{kids}
 use Rattle.tree.specs.Steps.{spot_of, Stands, Leads, rest, back, Up, Names}
-use Rattle.tree.proofs.Spots.{Linked, spot_stands, spot_links, no_spot, rest_after, back_before, rest_kids, up_parent}
+use Rattle.tree.proofs.Spots.{spot_stands, spot_links, no_spot, rest_after, back_before, rest_kids, up_parent}
 
 -- a kind whose sort is the root's is the root's
 root_kind : (k : Kind) (t : List ℕ) → sort_for k t ≡ root → k ≡ Root

@@ -1,12 +1,12 @@
 -- Where a node stands. A spot filled in again is the whole tree, and in a tree whose places are distinct each way to fill it in is the spot of its place:
 -- so a step to a neighbour, a child or the parent leads to the spot that one expects. Assumes nothing.
-use Rattle.std.proofs.Common.{◌≡◌, ℕ, ◌+◌, ◌<◌, ◌≤◌, Bool, true, false, cond, eqb, ltb, ◌⊎◌, List, [], ◌∷◌, Some, None, Option, sym, refl, ap, ◌∙◌, subst, inl, inr, arith}
+use Rattle.std.proofs.Common.{◌≡◌, ℕ, ◌+◌, ◌<◌, ◌≤◌, List, [], ◌∷◌, Some, None, Option, sym, refl, ap, ◌∙◌, subst, inl, inr, arith}
 use Rattle.std.proofs.lemmas.Bool.{cases_eq, cases_lt}
-use Rattle.forest.specs.Forest.{Forest, end, node, one, count, Distinct}
-use Rattle.forest.specs.Asks.{pick, head_of, own_in, parent_in, prev_in, next_in, first_in, index_in}
+use Rattle.forest.specs.Forest.{end, node, one, count, Distinct}
+use Rattle.forest.specs.Asks.{head_of, own_in, parent_in, prev_in, next_in, first_in, index_in}
 use Rattle.forest.proofs.Frames.{one_same, one_eq, one_other}
 use Rattle.forest.proofs.Picks.{pick_here, pick_below, pick_after}
-use Rattle.model.specs.Nodes.{Own, Nodes, root}
+use Rattle.model.specs.Nodes.{Own, Nodes}
 use Rattle.model.specs.Asks.{Frame, Spot, spot_in, spot_at, tree, or_given, width}
 use Rattle.model.specs.Edits.{onto}
 use Rattle.model.specs.State.{parent_spot}

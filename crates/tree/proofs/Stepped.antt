@@ -1,6 +1,5 @@
 -- Steps taken apart: where a step leads, and what is there from then on. Assumes nothing.
-use Rattle.std.proofs.Common.{◌≡◌, ℕ, ◌<◌, Some, None, Option, sym, refl, ap, subst, arith}
-use Rattle.forest.specs.Forest.{end, node}
+use Rattle.std.proofs.Common.{◌≡◌, ℕ, ◌<◌, Some, None, Option, refl, ap, subst, arith}
 use Rattle.model.specs.Nodes.{Nodes}
 use Rattle.model.specs.Asks.{first_handle, width}
 use Rattle.tree.specs.Steps.{spot_of, Stands, Leads, rest, back}

@@ -1,7 +1,6 @@
 -- Steps from node to node: what stands where a step leads. Assumes nothing.
 use Rattle.std.specs.Prelude.{◌≡◌, ℕ, ◌<◌, Bool, true, false, List, [], ◌∷◌, Some, None, Ok, Err, Option, Result}
 use Rattle.forest.specs.Forest.{end, node, count}
-use Rattle.grammar.specs.Pieces.{Leaf, Box}
 use Rattle.model.specs.Nodes.{Handle, Nodes, Sort, root, within, single}
 use Rattle.model.specs.Asks.{Frame, Spot, tree, or_given, spot_at, named}
 use Rattle.refusal.specs.declared.Refusal.{Refusal}

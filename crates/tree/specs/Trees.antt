@@ -1,9 +1,7 @@
 -- What the crates above see of a tree: the state of a document. Assumes nothing.
-use Rattle.std.specs.Prelude.{◌≡◌, ℕ, ◌<◌, List, [], ◌∷◌, Some, None, vec_items, vec_len, Option}
-use Rattle.forest.specs.Forest.{end, node, count}
+use Rattle.std.specs.Prelude.{vec_items, vec_len}
 use Rattle.table.specs.Tables as table
-use Rattle.model.specs.Nodes.{Nodes, root}
-use Rattle.model.specs.Asks.{Frame, Spot, tree, or_given, spot_at}
+use Rattle.model.specs.Nodes.{Nodes}
 use Rattle.model.specs.State.{State}
 use Rattle.tree.specs.declared.tree.Tree.{Tree}
 use Rattle.tree.specs.Well.{kids_in}

@@ -1,4 +1,4 @@
-use Rattle.std.proofs.Common.{◌≡◌, ◌++◌, length, take, drop}
+use Rattle.std.proofs.Common.{◌≡◌, ◌++◌, take, drop}
 use Rattle.replay.specs.Carried.{answers_to, carried_all, world_of}
 use Rattle.replay.proofs.carry_all.Given as goal
 

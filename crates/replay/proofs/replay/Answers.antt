@@ -1,10 +1,9 @@
-use Rattle.std.proofs.Common.{◌≡◌, length, sym, ap, ◌∙◌, subst, arith}
+use Rattle.std.proofs.Common.{◌≡◌, length, sym, ap, subst}
 use Rattle.model.specs.State.{State}
 use Rattle.model.specs.Promise.{Run, meant}
 use Rattle.model.proofs.Promised.{the_promise}
 use Rattle.document.specs.Documents.{state_of}
 use Rattle.replay.specs.Carried.{World, carried_all, calls_for}
-use Rattle.replay.specs.Replayed.{first}
 use Rattle.replay.proofs.Carrying.{runs}
 use Rattle.replay.proofs.replay.Goals as goal
 

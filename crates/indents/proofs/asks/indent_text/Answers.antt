@@ -1,13 +1,13 @@
-use Rattle.std.proofs.Common.{◌≡◌, length, Some, None, sym, ap, ◌∙◌, arith}
+use Rattle.std.proofs.Common.{length, sym, ap, ◌∙◌, arith}
 use Rattle.refusal.specs.declared.Refusal.TheVariants.{Gone, Short}
-use Rattle.model.specs.Asks.{Spot, indent_text, indent_before}
-use Rattle.model.specs.State.{Outcome, Given, Refused, indent_answer, filled_or}
+use Rattle.model.specs.Asks.{indent_text, indent_before}
+use Rattle.model.specs.State.{indent_answer, filled_or}
 use Rattle.tree.specs.Sorts.{handle_for}
 use Rattle.tree.specs.Trees.{kids}
-use Rattle.tree.specs.Steps.{spot_of, back}
+use Rattle.tree.specs.Steps.{back}
 use Rattle.document.specs.Documents.{state_of}
 use Rattle.document.proofs.Asked.{gone, here}
-use Rattle.indents.specs.Blanks.{blanks, blanks_from}
+use Rattle.indents.specs.Blanks.{blanks}
 use Rattle.indents.proofs.Filled.{refused, refused_exit, absent, given, none_filled, short_filled, fully_filled}
 use Rattle.indents.proofs.asks.indent_text.Goals as goal
 

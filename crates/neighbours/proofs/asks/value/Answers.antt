@@ -1,15 +1,13 @@
-use Rattle.std.proofs.Common.{cond, ◌||◌, Some, None, sym, ap, ◌∙◌}
+use Rattle.std.proofs.Common.{cond, ◌||◌, sym, ap, ◌∙◌}
 use Rattle.std.proofs.lemmas.Bool.{cond-true, cond-false}
 use Rattle.refusal.specs.declared.Refusal.TheVariants.{NotHere}
-use Rattle.model.specs.Asks.{Spot, Frame, sort_of, frame_handle, spot_handle, first_handle, previous_sibling, next_sibling, trailing_comma, trailing, parent_info, parent_of, holds, child_at, is_root, is_property, value_in, width}
-use Rattle.model.specs.State.{Outcome, Given, Refused}
+use Rattle.model.specs.Asks.{sort_of, is_root, is_property, value_in}
+use Rattle.model.specs.State.{Given, Refused}
 use Rattle.tree.specs.Sorts.{handle_for}
 use Rattle.tree.specs.Trees.{kids}
-use Rattle.tree.specs.Steps.{spot_of, rest}
-use Rattle.tree.proofs.Stepped.{first_back}
+use Rattle.tree.specs.Steps.{spot_of}
 use Rattle.document.specs.Documents.{optional}
 use Rattle.document.proofs.Asked.{here, gone_exit}
-use Rattle.neighbours.specs.Pairs.{pair_for}
 use Rattle.neighbours.proofs.asks.value.Goals as goal
 
 pub returns-in_err-place : goal.returns-in_err-place

@@ -1,7 +1,5 @@
-use Rattle.std.proofs.Common.{Some, None, sym, refl, ap, ◌∙◌}
-use Rattle.model.specs.Asks.{child_at, trailing, value_in}
+use Rattle.std.proofs.Common.{Some, refl, ap, ◌∙◌}
 use Rattle.tree.specs.Trees.{kids}
-use Rattle.tree.specs.Steps.{rest}
 use Rattle.tree.proofs.Seen.{spot_handle_lem}
 use Rattle.tree.proofs.Stepped.{stands, rest_less}
 use Rattle.neighbours.proofs.Walked.{child_here, child_on, child_end}

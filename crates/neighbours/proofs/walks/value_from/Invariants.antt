@@ -1,5 +1,5 @@
 use Rattle.std.proofs.Common.{◌≡◌}
-use Rattle.model.specs.Asks.{child_at, trailing, value_in, width}
+use Rattle.model.specs.Asks.{value_in, width}
 use Rattle.tree.specs.Trees.{kids}
 use Rattle.tree.specs.Steps.{Leads, rest}
 use Rattle.neighbours.proofs.walks.value_from.Given as goal

@@ -1,4 +1,4 @@
-use Rattle.std.proofs.Common.{ap, ◌∙◌}
+use Rattle.std.proofs.Common.{◌∙◌}
 use Rattle.tree.specs.Trees.{kids}
 use Rattle.tree.specs.Steps.{spot_of}
 use Rattle.paths.proofs.Arrays.{above_array, above_none}

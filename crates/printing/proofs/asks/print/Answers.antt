@@ -1,7 +1,7 @@
 use Rattle.std.proofs.Common.{◌≡◌, length, sym, ap, ◌∙◌, arith}
-use Rattle.refusal.specs.declared.Refusal.TheVariants.{BadMemory, Short}
-use Rattle.model.specs.Nodes.{Nodes, print}
-use Rattle.model.specs.State.{Given, print_answer, filled}
+use Rattle.refusal.specs.declared.Refusal.TheVariants.{Short}
+use Rattle.model.specs.Nodes.{print}
+use Rattle.model.specs.State.{print_answer, filled}
 use Rattle.tree.specs.Trees.{kids}
 use Rattle.tree.specs.Steps.{rest}
 use Rattle.tree.proofs.Seen.{root_stands, root_kids}

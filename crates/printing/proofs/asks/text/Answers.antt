@@ -1,7 +1,7 @@
-use Rattle.std.proofs.Common.{◌≡◌, length, sym, refl, ap, ◌∙◌, arith}
+use Rattle.std.proofs.Common.{length, sym, ap, ◌∙◌}
 use Rattle.refusal.specs.declared.Refusal.TheVariants.{Gone, NotHere, Short}
 use Rattle.model.specs.Asks.{Spot, sort_of, spelt, text}
-use Rattle.model.specs.State.{Outcome, Given, and_then, present, text_answer, filled}
+use Rattle.model.specs.State.{and_then, present, text_answer, filled}
 use Rattle.tree.specs.Sorts.{handle_for}
 use Rattle.tree.specs.Trees.{kids}
 use Rattle.tree.specs.Steps.{spot_of}

@@ -1,9 +1,8 @@
 use Rattle.std.proofs.Common.{◌≡◌, ◌++◌, length, sym, ap, ◌∙◌, arith}
 use Rattle.forest.specs.Forest.{size}
 use Rattle.model.specs.Nodes.{print}
-use Rattle.model.specs.Asks.{spelt, sort_of}
 use Rattle.tree.specs.Trees.{kids}
-use Rattle.tree.specs.Steps.{spot_of, rest}
+use Rattle.tree.specs.Steps.{rest}
 use Rattle.printing.specs.Buffers.{over}
 use Rattle.printing.proofs.Written.{over_none, length_over, turn_again}
 use Rattle.printing.proofs.Printed.{rest_long, rest_printed, end_printed, fewer}

@@ -1,4 +1,4 @@
-use Rattle.std.proofs.Common.{◌≡◌, length, sym, ap, ◌∙◌}
+use Rattle.std.proofs.Common.{length, sym, ap, ◌∙◌}
 use Rattle.model.specs.State.{print_answer, text_answer, path_answer, outcome, Clear}
 use Rattle.tree.specs.Sorts.{handle_for}
 use Rattle.document.specs.Documents.{state_of}

@@ -1,4 +1,4 @@
-use Rattle.std.proofs.Common.{None, sym, refl, ap, ◌∙◌, arith}
+use Rattle.std.proofs.Common.{sym, ap, ◌∙◌, arith}
 use Rattle.model.specs.State.{Given, Clear, and_then, after_outcome, answers}
 use Rattle.model.specs.Written.{Value}
 use Rattle.tree.specs.Trees.{state}

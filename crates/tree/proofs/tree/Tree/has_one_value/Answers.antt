@@ -1,5 +1,5 @@
 use Rattle.std.proofs.Common.{◌||◌, ap}
-use Rattle.model.specs.Asks.{holds, is_root, is_property, is_array, is_object}
+use Rattle.model.specs.Asks.{is_root, is_property}
 use Rattle.tree.proofs.tree.Tree.has_one_value.Goals as goal
 
 pub returns-in-Root : goal.returns-in-Root

@@ -1,5 +1,5 @@
-use Rattle.std.proofs.Common.{◌||◌, ap}
-use Rattle.model.specs.Asks.{holds, is_root, is_property, is_array, is_object}
+use Rattle.std.proofs.Common.{ap}
+use Rattle.model.specs.Asks.{is_array}
 use Rattle.tree.proofs.tree.Tree.is_array.Goals as goal
 
 pub returns-in-Root : goal.returns-in-Root

@@ -1,5 +1,4 @@
-use Rattle.std.proofs.Common.{◌||◌, ap}
-use Rattle.model.specs.Asks.{holds, is_root, is_property, is_array, is_object, is_some, text}
+use Rattle.std.proofs.Common.{ap}
 use Rattle.tree.specs.Steps.{is_box}
 use Rattle.tree.proofs.tree.Tree.is_box.Goals as goal
 

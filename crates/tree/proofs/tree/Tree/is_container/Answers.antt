@@ -1,4 +1,4 @@
-use Rattle.std.proofs.Common.{sym, ap, ◌∙◌}
+use Rattle.std.proofs.Common.{ap}
 use Rattle.model.specs.Asks.{holds}
 use Rattle.tree.proofs.tree.Tree.is_container.Goals as goal
 

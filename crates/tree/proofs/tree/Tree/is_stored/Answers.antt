@@ -1,6 +1,5 @@
-use Rattle.std.proofs.Common.{◌||◌, ap}
-use Rattle.model.specs.Asks.{holds, is_root, is_property, is_array, is_object, is_some, text}
-use Rattle.tree.specs.Steps.{is_box}
+use Rattle.std.proofs.Common.{ap}
+use Rattle.model.specs.Asks.{is_some, text}
 use Rattle.tree.proofs.tree.Tree.is_stored.Goals as goal
 
 pub returns-in-Root : goal.returns-in-Root

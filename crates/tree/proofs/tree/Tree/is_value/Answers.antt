@@ -1,4 +1,4 @@
-use Rattle.std.proofs.Common.{sym, ap, ◌∙◌}
+use Rattle.std.proofs.Common.{sym, ap}
 use Rattle.model.specs.Asks.{is_value}
 use Rattle.tree.proofs.Classes.{is_blank_lem, is_break_lem, is_remark_lem, is_comma_lem, is_mark, class_is_value}
 use Rattle.tree.proofs.tree.Tree.is_value.Goals as goal
