@@ -40,7 +40,8 @@ pub fn facts(
 
 /// Own data with a number, and ten bytes for each number before it in the store.
 fn numbered(number: u32) -> Own
-    requires { ((number ≢ 0)) × (number < 1000) }
+    requires some { number ≢ 0 }
+    requires few { number < 1000 }
     ensures { result.number ≡ number }
 {
     Own {

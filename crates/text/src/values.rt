@@ -19,7 +19,7 @@ use lexemes::classes::ByteClass;
 pub const LEVELS: u8 = 64;
 
 // member = string name-separator value
-#[cycle(read_container_read_item_read_items_read_member_read_nested_read_turn_read_value)]
+#[cycle(nesting)]
 fn read_member<S: Sink>(text: &[u8], at: usize, levels: u8, sink: &mut S) -> Result<usize, Fault>
     requires { at ≤ length text.now }
     ensures { Makes S.Sink.after (member_p (value_p levels)) text.now at sink.old result sink.new }
@@ -32,7 +32,7 @@ fn read_member<S: Sink>(text: &[u8], at: usize, levels: u8, sink: &mut S) -> Res
 }
 
 // an element of an array, or a member of an object
-#[cycle(read_container_read_item_read_items_read_member_read_nested_read_turn_read_value)]
+#[cycle(nesting)]
 fn read_item<S: Sink>(
     text: &[u8],
     at: usize,
@@ -50,7 +50,7 @@ fn read_item<S: Sink>(
 }
 
 // trivia and the closing bracket, or trivia, an item, trivia, and a comma or the bracket
-#[cycle(read_container_read_item_read_items_read_member_read_nested_read_turn_read_value)]
+#[cycle(nesting)]
 fn read_turn<S: Sink>(
     text: &[u8],
     from: usize,
@@ -72,7 +72,7 @@ fn read_turn<S: Sink>(
 }
 
 // what follows an opening bracket
-#[cycle(read_container_read_item_read_items_read_member_read_nested_read_turn_read_value)]
+#[cycle(nesting)]
 fn read_items<S: Sink>(
     text: &[u8],
     from: usize,
@@ -96,7 +96,7 @@ fn read_items<S: Sink>(
 }
 
 // array = begin-array .. end-array, object = begin-object .. end-object
-#[cycle(read_container_read_item_read_items_read_member_read_nested_read_turn_read_value)]
+#[cycle(nesting)]
 fn read_container<S: Sink>(
     text: &[u8],
     at: usize,
@@ -116,7 +116,7 @@ fn read_container<S: Sink>(
 }
 
 // an array or an object, of at most so many levels
-#[cycle(read_container_read_item_read_items_read_member_read_nested_read_turn_read_value)]
+#[cycle(nesting)]
 fn read_nested<S: Sink>(text: &[u8], at: usize, levels: u8, sink: &mut S) -> Result<usize, Fault>
     requires { at ≤ length text.now }
     ensures { Makes S.Sink.after (nested_p levels) text.now at sink.old result sink.new }
@@ -132,7 +132,7 @@ fn read_nested<S: Sink>(text: &[u8], at: usize, levels: u8, sink: &mut S) -> Res
 
 /// A value of at most so many levels.
 // value = false / null / true / object / array / number / string
-#[cycle(read_container_read_item_read_items_read_member_read_nested_read_turn_read_value)]
+#[cycle(nesting)]
 pub fn read_value<S: Sink>(text: &[u8], at: usize, levels: u8, sink: &mut S) -> Result<usize, Fault>
     requires { at ≤ length text.now }
     ensures { Makes S.Sink.after (value_p levels) text.now at sink.old result sink.new }

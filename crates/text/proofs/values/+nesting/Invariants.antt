@@ -3,7 +3,7 @@ use Rattle.grammar.specs.Reader.{items_p, value_p}
 use Rattle.text.specs.declared.fault.Fault.{Fault}
 use Rattle.text.specs.Frames.{frame_for}
 use Rattle.text.specs.Reports.{Makes}
-use Rattle.text.proofs.values.+read_container_read_item_read_items_read_member_read_nested_read_turn_read_value.Given as goal
+use Rattle.text.proofs.values.+nesting.Given as goal
 
 abbrev pub decreases-read_nested : goal.decreases-read_nested
 decreases-read_nested g l = 8 * l.levels

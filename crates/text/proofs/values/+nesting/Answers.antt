@@ -7,7 +7,7 @@ use Rattle.text.specs.Reports.{Turns}
 use Rattle.text.proofs.Spells.{steps_turn, says_value}
 use Rattle.text.proofs.Telling.{loop_more, loop_done, loop_stops, loop_moves}
 use Rattle.text.proofs.Nests.{container_made, member_made, member_late, member_early, nested_deep, nested_array, nested_object, turn_close, turn_item}
-use Rattle.text.proofs.values.+read_container_read_item_read_items_read_member_read_nested_read_turn_read_value.Goals as goal
+use Rattle.text.proofs.values.+nesting.Goals as goal
 
 pub read_container-returns : goal.read_container-returns
 read_container-returns g t c =
