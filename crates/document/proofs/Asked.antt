@@ -6,7 +6,7 @@ use Rattle.forest.specs.Forest.{size}
 use Rattle.refusal.specs.declared.Refusal.{Refusal}
 use Rattle.refusal.specs.declared.Refusal.TheVariants.{BadMemory, Gone}
 use Rattle.table.specs.Tables as table
-use Rattle.table.proofs.Seen as of-table
+use Rattle.table.proofs.Seen as of_table
 use Rattle.model.specs.Nodes.{Handle}
 use Rattle.model.specs.Asks.{Spot, named}
 use Rattle.model.specs.State.{Outcome, Refused, State, unless, and_then, present, unloaded, spotted, asking}
@@ -19,7 +19,7 @@ use Rattle.document.specs.Documents.{state_of, state_in, told}
 
 -- a tree has records
 pub some_records : (t : Tree) → 0 < table.records t.table
-some_records t = (let r = root_is t in omega (arith, of-table.tree_size t.table, ap (λ y. size y) r.2))
+some_records t = (let r = root_is t in omega (arith, of_table.tree_size t.table, ap (λ y. size y) r.2))
 
 pub is_loaded : (t : Tree) → unloaded (state t) ≡ false
 is_loaded t = ne_eqb (table.records t.table) 0 (λ e. omega (arith, some_records t))

@@ -5,7 +5,7 @@ use Rattle.grammar.specs.Classes.{only, Tail, MultiFirst, Digit, Digit1To9, Expo
 use Rattle.grammar.specs.Pieces.{Leaf, null, boolean, token, newline, whitespace, string, number, Token, token_byte, line_feed}
 use Rattle.grammar.specs.Reader.{either, or_p, byte_p, empty_p, cat_p, word_p, run_p, concats, many_p, tail_p, two_p, three_p, four_p, multi_p, char_p, chars_p, minus_p, digits_p, int_p, frac_p, power_p, exp_p, number_p, hex_p, unicode_p, escape_p, string_char_p, StringFirst, string_p, block_turn, block_turn_p, block_p, nothing_p, joins, only_leaf, token_p, space_p, returned, return_p, newline_p, line_end_p, comment_of, comment_p, plain_p, piece_p, unit_p, trivia_p, string_leaf_p, number_leaf_p, literal_p, null_p, true_p, false_p, scalar_p}
 use Rattle.grammar.proofs.Laws.{Laws, Means, shorter}
-use Rattle.grammar.proofs.Bytes.{ByteLaws, unit_laws as many-unit, TurnL as ManyL, unit_null_lem, unit_ext_lem}
+use Rattle.grammar.proofs.Bytes.{ByteLaws, unit_laws as many_unit, TurnL as ManyL, unit_null_lem, unit_ext_lem}
 use Rattle.grammar.specs.Grammar.{Char, StringChar}
 use Rattle.grammar.proofs.Chars.{char_laws, strchar_laws}
 use Rattle.grammar.proofs.Blocks.{TurnL, turn_laws, turn_null, turn_ext, BlockFirst}
@@ -114,7 +114,7 @@ calm_run c (b ∷ t) = go (within c b) (calm_run c t)
     go false d = tt
 
 calm_many : (P : List ℕ → Type 0) (f : Class) (p : Parser (List ℕ)) → ByteLaws P p f false [] → Calm p → Calm (many_p f p)
-calm_many P f p h k = calm_map (λ x. concats x.0 x.1) (iter_p (alt_p f p empty_p)) (calm_iter (alt_p f p empty_p) (calm_alt f p empty_p k calm_empty) (progress (ManyL P p f h) (alt_p f p empty_p) (f ++ []) (unit_null_lem P p f h) (unit_ext_lem P p f h) (many-unit P p f h) (λ a. refl)))
+calm_many P f p h k = calm_map (λ x. concats x.0 x.1) (iter_p (alt_p f p empty_p)) (calm_iter (alt_p f p empty_p) (calm_alt f p empty_p k calm_empty) (progress (ManyL P p f h) (alt_p f p empty_p) (f ++ []) (unit_null_lem P p f h) (unit_ext_lem P p f h) (many_unit P p f h) (λ a. refl)))
 
 calm_three : (a b : Class) → Calm (three_p a b)
 calm_three a b = calm_cat (byte_p a) (cat_p (byte_p b) tail_p) (calm_byte a) (calm_cat (byte_p b) tail_p (calm_byte b) (calm_byte Tail))

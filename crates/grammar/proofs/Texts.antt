@@ -5,7 +5,7 @@ use Rattle.grammar.specs.Parse.{Lang, Class, within, Free, eps_l, eps_p, seq_l, 
 use Rattle.grammar.specs.Classes.{Gap}
 use Rattle.grammar.specs.Layout.{Label, Null, Boolean, Numeral, Text, Array, Object, Member, Mark, Open, Close, Comma, Colon, Name, Layout, stop, note, mark, item, raised, levels}
 use Rattle.grammar.specs.Grammar.{Between, after, Trivia, Frame, brackets, braces, closer, quoted, shut, Value, null, truth, falsity, numeral, text, array, object, Item, element, member, Items, close, last, more, Sentence, nothing, something}
-use Rattle.grammar.specs.Pieces.{Token, comma, colon, open_array, open_object, null as null-leaf, boolean, number, string, name, token, Box, property, array as array-box, object as object-box, Pieces, end, leaf, box, join, token_byte, print, lay, inner}
+use Rattle.grammar.specs.Pieces.{Token, comma, colon, open_array, open_object, null as null_leaf, boolean, number, string, name, token, Box, property, array as array_box, object as object_box, Pieces, end, leaf, box, join, token_byte, print, lay, inner}
 use Rattle.grammar.specs.Reader.{or_p, then_p, nothing_p, trivia_p, joins, only_leaf, close_token, ValueFirst, value_p, text_p}
 use Rattle.grammar.proofs.Laws.{Laws, free_none, free_left, free_right, free_both, covers_ok, apart_ok, eps_laws, conv_laws, map_laws, seq_laws, choice_laws, tied_l, tied_laws}
 use Rattle.grammar.proofs.Chars.{NumberMore}
@@ -173,7 +173,7 @@ module _ (n : ℕ) (V : Lang Pieces) (from : (l : Label) (k : Layout) (u : List 
       more_from (cut false tg) (item_from i (omega arith)) (cut false th) (items_from z (omega arith))
 
 pub value_from_lem : (n : ℕ) (l : Label) (k : Layout) (u : List ℕ) → Value l k u → raised l (levels k) ≤ n → Back (ValueL n) l k u
-value_from_lem n _ _ _ null d = record { pieces = only_leaf null-leaf; is = inr (inr (inl (refl, refl))); laid = λ r b. refl }
+value_from_lem n _ _ _ null d = record { pieces = only_leaf null_leaf; is = inr (inr (inl (refl, refl))); laid = λ r b. refl }
 value_from_lem n _ _ _ truth d = record { pieces = only_leaf (boolean true); is = inr (inr (inr (inl (refl, refl)))); laid = λ r b. refl }
 value_from_lem n _ _ _ falsity d = record { pieces = only_leaf (boolean false); is = inr (inr (inr (inr (inl (refl, refl))))); laid = λ r b. refl }
 value_from_lem n _ _ _ (numeral {t = t} m) d = record { pieces = only_leaf (number t); is = inr (inr (inr (inr (inr (refl, m))))); laid = λ r b. refl }
@@ -184,7 +184,7 @@ value_from_lem (suc n) _ _ _ (array {u = u} x) d =
     let m = items_from n (ValueL n) (value_from_lem n) x (omega arith) in
     let q : Pieces = joins m.turns m.stop in
     record {
-      pieces = box array-box (leaf (token open_array) q) end;
+      pieces = box array_box (leaf (token open_array) q) end;
       is = inl (inl (leaf (token open_array) q, refl, ((only_leaf (token open_array), q), refl, (91 ∷ [], u, refl, (refl, refl), ((m.turns, m.stop), refl, m.is)))));
       laid = λ r b. ap (λ y. item b Array (mark false Open y) (lay r false)) m.laid;
     }
@@ -192,7 +192,7 @@ value_from_lem (suc n) _ _ _ (object {u = u} x) d =
     let m = items_from n (ValueL n) (value_from_lem n) x (omega arith) in
     let q : Pieces = joins m.turns m.stop in
     record {
-      pieces = box object-box (leaf (token open_object) q) end;
+      pieces = box object_box (leaf (token open_object) q) end;
       is = inl (inr (leaf (token open_object) q, refl, ((only_leaf (token open_object), q), refl, (123 ∷ [], u, refl, (refl, refl), ((m.turns, m.stop), refl, m.is)))));
       laid = λ r b. ap (λ y. item b Object (mark false Open y) (lay r false)) m.laid;
     }
@@ -209,7 +209,7 @@ abbrev pub TextMore : Class
 TextMore = OpenMore ++ (Gap ++ (NumberMore ++ ValueFirst))
 
 trail_leaf_lem : (x : Rattle.grammar.specs.Pieces.Leaf) (t : List ℕ) → Free OpenMore t → Free Gap t → Free (trail_leaf x) t
-trail_leaf_lem null-leaf t f g = g
+trail_leaf_lem null_leaf t f g = g
 trail_leaf_lem (boolean b) t f g = g
 trail_leaf_lem (number s) t f g = g
 trail_leaf_lem (string s) t f g = g

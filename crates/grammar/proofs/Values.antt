@@ -4,7 +4,7 @@ use mathlib.Core.Bool.{false≢true}
 use Rattle.std.proofs.lemmas.Bool.{le-leb, and_from, or_left}
 use Rattle.grammar.specs.Parse.{Out, ok, bad, deep, Res, res, map_o, map_r, Lang, Parser, Class, within, starts, Free, Opening, one_l, one_p, seq_l, seq_p, alt_l, pick, map_l, map_p, iter_l, iter_p}
 use Rattle.grammar.specs.Classes.{only, Gap, ScalarFirst}
-use Rattle.grammar.specs.Grammar.{Number, Frame, brackets, braces, opener, closer, number, plus, whole, plain, zero as zero-int}
+use Rattle.grammar.specs.Grammar.{Number, Frame, brackets, braces, opener, closer, number, plus, whole, plain, zero as zero_int}
 use Rattle.grammar.specs.Pieces.{Token, comma, colon, Leaf, null, boolean, string, name, token, number as numeral, property, Pieces, end, leaf, box, join, token_byte}
 use Rattle.grammar.specs.Reader.{either, or_p, word_p, string_p, number_p, then_p, ahead, after_p, joins, only_leaf, token_p, trivia_p, string_leaf_p, number_leaf_p, literal_p, null_p, true_p, false_p, scalar_p, open_token, close_token, box_of, end_p, name_p, member_p, item_p, turn_p, items_p, container_p, nested_p, value_p, ValueFirst}
 use Rattle.grammar.proofs.Laws.{Laws, Means, Says, Again, Halts, halts_map, says_map, apart, free_left, free_right, free_none, free_both, one_laws, conv_laws, map_laws, wide_laws, first_laws, seq_laws, choice_laws, alt_laws, iter_laws, starts_same, covers_ok}
@@ -272,7 +272,7 @@ abbrev pub ValueL : ℕ → Lang Pieces
 ValueL n = ValueOf (NestedL n)
 
 nought : ScalarL (only_leaf (numeral (48 ∷ []))) (48 ∷ [])
-nought = inr (inr (inr (inr (refl, number {m = []} {i = 48 ∷ []} {f = []} {e = []} plus zero-int whole plain))))
+nought = inr (inr (inr (inr (refl, number {m = []} {i = 48 ∷ []} {f = []} {e = []} plus zero_int whole plain))))
 
 flat_deep : (s : List ℕ) → starts Opening s ≡ true → Means (ValueL 0) (value_p 0) s (res deep s)
 flat_deep s e = ([], refl, (48 ∷ [], only_leaf (numeral (48 ∷ [])), inr nought), ag s e, e)

@@ -7,7 +7,7 @@ use Rattle.table.specs.declared.kind.Kind.TheVariants.{Root, Array, Object, Prop
 use Rattle.table.specs.declared.kind.NewlineKind.TheVariants.{LineFeed, CarriageReturn, CarriageReturnLineFeed}
 use Rattle.table.specs.declared.node.Own as record_of
 use Rattle.table.specs.Tables as table
-use Rattle.table.proofs.Seen as of-table
+use Rattle.table.proofs.Seen as of_table
 use Rattle.model.specs.Nodes.{Nodes, class}
 use Rattle.model.specs.Asks.{Frame, Spot, spot_in, sort_of, tree, spelt, is_blank}
 use Rattle.tree.specs.declared.tree.Tree.{Tree}
@@ -56,7 +56,7 @@ unfolding whole
 weight_few t =
     let w : weight (tree (kids t)) ≡ weight (map (own_for (vec_items t.store)) (table.tree t.table)) = ap (λ y. weight y) (sym (rooted t)) in
     let n = map_few (vec_items t.store) (table.tree t.table) (store_few t) in
-    omega (arith, of-table.tree_size t.table, of-table.records_few t.table)
+    omega (arith, of_table.tree_size t.table, of_table.records_few t.table)
 
 blanks_weight : (bs : Nodes) → length (blanks bs) ≤ weight bs
 blanks_weight end = omega arith

@@ -17,7 +17,7 @@ use Rattle.model.specs.State.{State, Outcome, Refused, Given, and_then, unless, 
 use Rattle.model.specs.Changes.{Placed}
 use Rattle.model.specs.Given.{below, often, Held}
 use Rattle.model.proofs.Loads.{size_numbered, places_numbered, numbers_numbered}
-use Rattle.model.proofs.Tally.{tally, drop-drop}
+use Rattle.model.proofs.Tally.{tally, drop_drop}
 use Rattle.model.proofs.Sowing.{Sows, Sowing, planned_sows}
 
 -- below it counts one
@@ -75,7 +75,7 @@ sown_places k n [] (leaf x r) l = absurd (omega arith)
 sown_places k n (p ∷ ps) (leaf x r) l = omega (arith, sown_places k (n + 1) ps r (omega arith))
 sown_places k n [] (box b c r) l = absurd (omega arith)
 sown_places k n (p ∷ ps) (box b c r) l =
-    omega (arith, sown_places k (n + 1) ps c (omega arith), sown_places k (n + suc (nodes c)) (drop (nodes c) ps) r (omega (arith, length-drop (nodes c) ps)), ap (occurs k) (drop-drop (nodes r) (nodes c) ps))
+    omega (arith, sown_places k (n + 1) ps c (omega arith), sown_places k (n + suc (nodes c)) (drop (nodes c) ps) r (omega (arith, length-drop (nodes c) ps)), ap (occurs k) (drop_drop (nodes r) (nodes c) ps))
 
 -- and the next numbers
 pub sown_often : (m : ℕ) (s : Supply) (a : Pieces) → often m (sown s a) + below m s.number ≡ below m (s.number + nodes a)

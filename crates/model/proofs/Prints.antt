@@ -3,7 +3,7 @@ use Rattle.std.proofs.Common.{◌≡◌, ℕ, Bool, true, false, List, [], ◌�
 use mathlib.Core.Bool.{false≢true}
 use Rattle.grammar.specs.Classes.{Blank}
 use Rattle.grammar.specs.Layout.{Comment, Line, Block, Open, Close, Comma, Colon, Name, Label, Null, Boolean, Numeral, Text, Array, Object, Member, Layout, stop, mark as tick, item}
-use Rattle.grammar.specs.Grammar.{All, Many, StringChar, quoted, LineComment, Between, after, Trivia, Frame, brackets, braces, closer, shut as shutting, Value, null as a-null, truth, falsity, numeral, text, array as an-array, object as an-object, Item, element as an-element, member as a-member, Items, close, last, more, Sentence, nothing, something}
+use Rattle.grammar.specs.Grammar.{All, Many, StringChar, quoted, LineComment, Between, after, Trivia, Frame, brackets, braces, closer, shut as shutting, Value, null as a_null, truth, falsity, numeral, text, array as an_array, object as an_object, Item, element as an_element, member as a_member, Items, close, last, more, Sentence, nothing, something}
 use Rattle.grammar.specs.Pieces.{Token, open_array, close_array, open_object, close_object, comma, colon, Break, Leaf, null, boolean, number, string, name, token, whitespace, newline, comment, Box, array, object, property, Pieces, end as no_pieces, leaf, box, token_byte, boolean_bytes, inner, name_of, print, lay}
 use Rattle.grammar.proofs.Sentences.{inner_quoted}
 use Rattle.forest.specs.Forest.{end, node}
@@ -149,11 +149,11 @@ module _ (ts : Nodes) (x : Label) (k : Layout) (t : List ℕ) (c : Pieces) (laid
   only_front : Value x k t → pieces ts ≡ no_pieces → Front (Goal (of property) only) c
   only_front v z = lexeme (Goal (of property) only) c (λ b. item b x k (stop false)) t
       (λ b. laid b ∙ ap (λ y. item b x k (lay y false)) z) (printed ∙ (ap (λ y. t ++ print y) z ∙ append-nil t))
-      (λ h r th n g s ms tg. a-member ms tg th v)
+      (λ h r th n g s ms tg. a_member ms tg th v)
 
   value_items : (f : Owner) → takes f element ≡ true → Value x k t → Front (Goal f next) (pieces ts) → Front (Goal f items) c
   value_items top w v m = top_front v m
-  value_items (of array) w v m = item_front brackets (an-element v) m
+  value_items (of array) w v m = item_front brackets (an_element v) m
   value_items (of object) w v m = absurd (false≢true w)
   value_items (of property) w v m = idle c
 
@@ -266,7 +266,7 @@ name_at f t shut false ts e r = absurd (no_dead f ts e)
 
 token_at : (f : Owner) (m : Token) (q : Pos) (l : Bool) (ts : Nodes) → signs f m ≡ true → Ends f (run (step (here q l) (class (single (token m)))) ts) → Later f ts → Reads f q l (leaf (token m) (pieces ts))
 token_at top m q l ts w e r = absurd (false≢true w)
-token_at (of array) open_array q l ts w e r = open_at (of array) open_array q l ts e (λ z. an-array (done (Items brackets) (pieces ts) (r items false z)))
+token_at (of array) open_array q l ts w e r = open_at (of array) open_array q l ts e (λ z. an_array (done (Items brackets) (pieces ts) (r items false z)))
 token_at (of array) close_array q l ts w e r = close_at (of array) close_array q l ts e r (λ z. close_items brackets array close_array ts z (λ d. refl) refl) (λ z. close_next brackets array close_array ts z (λ d. refl) refl)
 token_at (of array) open_object q l ts w e r = absurd (false≢true w)
 token_at (of array) close_object q l ts w e r = absurd (false≢true w)
@@ -274,7 +274,7 @@ token_at (of array) comma q l ts w e r = comma_at_lem (of array) q l ts e (λ z.
 token_at (of array) colon q l ts w e r = absurd (false≢true w)
 token_at (of object) open_array q l ts w e r = absurd (false≢true w)
 token_at (of object) close_array q l ts w e r = absurd (false≢true w)
-token_at (of object) open_object q l ts w e r = open_at (of object) open_object q l ts e (λ z. an-object (done (Items braces) (pieces ts) (r items false z)))
+token_at (of object) open_object q l ts w e r = open_at (of object) open_object q l ts e (λ z. an_object (done (Items braces) (pieces ts) (r items false z)))
 token_at (of object) close_object q l ts w e r = close_at (of object) close_object q l ts e r (λ z. close_items braces object close_object ts z (λ d. refl) refl) (λ z. close_next braces object close_object ts z (λ d. refl) refl)
 token_at (of object) comma q l ts w e r = comma_at_lem (of object) q l ts e (λ z. comma_next braces ts (r items false z))
 token_at (of object) colon q l ts w e r = absurd (false≢true w)
@@ -304,7 +304,7 @@ string_value : (t : List ℕ) → Quoted t → Value (Text (inner t)) (stop fals
 string_value t (u, e, ms) = subst (λ y. Value (Text (inner y)) (stop false) y) (sym e) (subst (λ y. Value (Text y) (stop false) (quoted u)) (sym (inner_quoted u)) (text ms))
 
 leaf_at : (x : Leaf) (f : Owner) (q : Pos) (l : Bool) (ks ts : Nodes) → takes f (role (single x)) ≡ true → Spelled x → Ends f (run (step (here q l) (class (single x))) ts) → Later f ts → Reads f q l (leaf x (pieces ts))
-leaf_at null f q l ks ts w h e r = value_at ts Null (stop false) (110 ∷ 117 ∷ 108 ∷ 108 ∷ []) (leaf null (pieces ts)) (λ b. refl) refl f q l w a-null e r
+leaf_at null f q l ks ts w h e r = value_at ts Null (stop false) (110 ∷ 117 ∷ 108 ∷ 108 ∷ []) (leaf null (pieces ts)) (λ b. refl) refl f q l w a_null e r
 leaf_at (boolean b) f q l ks ts w h e r = value_at ts (Boolean b) (stop false) (boolean_bytes b) (leaf (boolean b) (pieces ts)) (λ d. refl) refl f q l w (boolean_value b) e r
 leaf_at (number t) f q l ks ts w h e r = value_at ts (Numeral t) (stop false) t (leaf (number t) (pieces ts)) (λ d. refl) refl f q l w (numeral h) e r
 leaf_at (string t) f q l ks ts w h e r = value_at ts (Text (inner t)) (stop false) t (leaf (string t) (pieces ts)) (λ d. refl) refl f q l w (string_value t h) e r

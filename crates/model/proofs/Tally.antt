@@ -30,14 +30,14 @@ abbrev pub Below : ℕ → Nodes → Nodes → Type 0
 Below c us ts = ((c ≡ 0) × (us ≡ ts)) ⊎ ((c ≡ 0 → ⊥) × (count c ts ≤ 1) × ((j : Own) × At c j us ts))
 
 -- what is left of a list after some and then others
-pub drop-drop : (m n : ℕ) (a : List ℕ) → drop m (drop n a) ≡ drop (n + m) a
-drop-drop m zero a = ap (λ y. drop y a) (let e : m ≡ 0 + m = omega arith in e)
-drop-drop m (suc n) [] = none m ∙ sym (none (suc n + m))
+pub drop_drop : (m n : ℕ) (a : List ℕ) → drop m (drop n a) ≡ drop (n + m) a
+drop_drop m zero a = ap (λ y. drop y a) (let e : m ≡ 0 + m = omega arith in e)
+drop_drop m (suc n) [] = none m ∙ sym (none (suc n + m))
   where
     none : (l : ℕ) → drop {A = ℕ} l [] ≡ []
     none zero = refl
     none (suc l) = refl
-drop-drop m (suc n) (x ∷ a) = drop-drop m n a ∙ ap (λ y. drop y (x ∷ a)) (let e : suc (n + m) ≡ suc n + m = omega arith in e)
+drop_drop m (suc n) (x ∷ a) = drop_drop m n a ∙ ap (λ y. drop y (x ∷ a)) (let e : suc (n + m) ≡ suc n + m = omega arith in e)
 
 -- sums in another order
 plus_assoc : (a b c : ℕ) → (a + b) + c ≡ a + (b + c)
@@ -53,7 +53,7 @@ suc_plus m n = omega arith
 
 -- what is left after some new nodes and then others
 pub skip_skip : (m n : ℕ) (s : Supply) → skip m (skip n s) ≡ skip (n + m) s
-skip_skip m n s = ap (λ y. record { places = y; number = (s.number + n) + m }) (drop-drop m n s.places) ∙ ap (λ y. record { places = drop (n + m) s.places; number = y }) (plus_assoc s.number n m)
+skip_skip m n s = ap (λ y. record { places = y; number = (s.number + n) + m }) (drop_drop m n s.places) ∙ ap (λ y. record { places = drop (n + m) s.places; number = y }) (plus_assoc s.number n m)
 
 -- after no new nodes all is left
 pub skip_none : (s : Supply) → skip 0 s ≡ s

@@ -8,7 +8,7 @@ use native.Mathlib.Bridge.{le_prop}
 use Rattle.forest.specs.Forest.{size}
 use Rattle.forest.proofs.Maps.{map_size}
 use Rattle.table.specs.Tables as table
-use Rattle.table.proofs.Seen as of-table
+use Rattle.table.proofs.Seen as of_table
 use Rattle.model.specs.Nodes.{Class, gap, mark, value, class}
 use Rattle.model.specs.Asks.{Frame, tree, is_value, tally}
 use Rattle.model.proofs.Removes.{some_none}
@@ -36,7 +36,7 @@ module _ (t : Tree) where
   -- a tree has no more nodes than places
   pub few_nodes : size (tree (kids t)) ≤ 65535
   unfolding whole
-  few_nodes = omega (arith, ap (λ y. size y) (of_Tree.rooted t), map_size (own_for (vec_items t.store)) (table.tree t.table), of-table.tree_size t.table, of-table.records_few t.table)
+  few_nodes = omega (arith, ap (λ y. size y) (of_Tree.rooted t), map_size (own_for (vec_items t.store)) (table.tree t.table), of_table.tree_size t.table, of_table.records_few t.table)
 
   module _ (k : ℕ) (c : Stands k (kids t)) where
     -- few siblings stand before a node

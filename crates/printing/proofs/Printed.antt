@@ -7,7 +7,7 @@ use Rattle.table.specs.declared.kind.Kind.TheVariants.{Root, Array, Object, Prop
 use Rattle.table.specs.declared.kind.NewlineKind.TheVariants.{LineFeed, CarriageReturn, CarriageReturnLineFeed}
 use Rattle.table.specs.declared.node.Own as record_of
 use Rattle.table.specs.Tables as table
-use Rattle.table.proofs.Seen as of-table
+use Rattle.table.proofs.Seen as of_table
 use Rattle.model.specs.Nodes.{Sort, root, within, single, Own, Nodes, print}
 use Rattle.model.specs.Asks.{Frame, Spot, spot_in, sort_of, tree, spelt}
 use Rattle.tree.specs.declared.tree.Tree.{Tree}
@@ -121,4 +121,4 @@ printed_few t (Some k) l =
     let m = part_weight k [] end (tree (kids t)) s (spot_stands (kids t) (distinct t) k l) in
     let w : weight (tree (kids t)) ≡ weight (map (own_for (vec_items t.store)) (table.tree t.table)) = ap (λ y. weight y) (sym (rooted t)) in
     let n = map_few (vec_items t.store) (table.tree t.table) (store_few t) in
-    omega (arith, printed_weight (rest (Some k) (kids t)), of-table.tree_size t.table, of-table.records_few t.table)
+    omega (arith, printed_weight (rest (Some k) (kids t)), of_table.tree_size t.table, of_table.records_few t.table)

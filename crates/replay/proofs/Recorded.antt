@@ -6,18 +6,18 @@ use Rattle.model.specs.State.{Outcome, Given, Refused}
 use Rattle.tree.specs.Cleared as of_Tree
 use Rattle.document.specs.Documents.{told}
 use Rattle.printing.specs.Buffers.{Fills}
-use Rattle.paths.specs.Ways as of-path
+use Rattle.paths.specs.Ways as of_path
 use Rattle.replay.specs.declared.call.Answer.TheVariants.{Done, Count}
 use Rattle.replay.specs.Answers.{note_of, noted}
 use Rattle.replay.specs.Carried.{counted, nothing}
 
 -- bytes that fill a buffer
-pub filled : (o : Outcome (List ℕ)) (out after : List ℕ) (r : Result ℕ Refusal) → Fills o out after r → (note_of Count r ≡ noted counted o) × (after ≡ of-path.written o out)
+pub filled : (o : Outcome (List ℕ)) (out after : List ℕ) (r : Result ℕ Refusal) → Fills o out after r → (note_of Count r ≡ noted counted o) × (after ≡ of_path.written o out)
 filled (Given t) out after r (e, f) = (ap (note_of Count) e, f)
 filled (Refused x) out after r (e, f) = (ap (note_of Count) e, f)
 
 -- ordinals that fill a list
-pub pathed : (o : Outcome (List ℕ)) (r : Result ℕ Refusal) → told (λ n. n) r ≡ of-path.counted o → note_of Count r ≡ noted counted o
+pub pathed : (o : Outcome (List ℕ)) (r : Result ℕ Refusal) → told (λ n. n) r ≡ of_path.counted o → note_of Count r ≡ noted counted o
 pathed (Given t) (Ok n) e = (let z : n ≡ length t = cc in ap Count z)
 pathed (Given t) (Err x) e = let z : ◌≡◌ {A = ℕ} 0 1 = cc in absurd (omega arith)
 pathed (Refused x) (Ok n) e = let z : ◌≡◌ {A = ℕ} 0 1 = cc in absurd (omega arith)

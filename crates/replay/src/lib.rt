@@ -47,7 +47,7 @@ pub fn replay(
     ordinals: &mut [usize],
     queue: &mut [Place],
 ) -> Result<(), LoadError>
-    ensures { Replayed (record { records = records; store = store; text = text.now }) calls.now (record { document = document.entry.now; answers = answers.old; bytes = bytes.old; ordinals = ordinals.old; queue = queue.old }) (record { document = document.exit.now; answers = answers.new; bytes = bytes.new; ordinals = ordinals.new; queue = queue.new }) result }
+    ensures { Replayed (record { records = records; store = store; text = text.now }) calls.now (record { document = document.old; answers = answers.old; bytes = bytes.old; ordinals = ordinals.old; queue = queue.old }) (record { document = document.new; answers = answers.new; bytes = bytes.new; ordinals = ordinals.new; queue = queue.new }) result }
 {
     if answers.len() < calls.len() {
         return Err(LoadError::Refused(Refusal::BadMemory));

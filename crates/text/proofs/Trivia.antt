@@ -83,11 +83,11 @@ line_goes true t e = ap (λ v. pick v newline_p eps_p t) (not_not (starts LineEn
 line_goes false t e = refl
 
 line_stops : (last : Bool) (t : List ℕ) → open_line last (starts LineEnd t) ≡ true → line_end_p last t ≡ res (ok (inr tt)) t
-line_stops true t e = ap (λ v. pick v newline_p eps_p t) (not-true (starts LineEnd t) e)
+line_stops true t e = ap (λ v. pick v newline_p eps_p t) (not_true (starts LineEnd t) e)
   where
-    not-true : (v : Bool) → not v ≡ true → v ≡ false
-    not-true true z = absurd (false≢true z)
-    not-true false z = refl
+    not_true : (v : Bool) → not v ≡ true → v ≡ false
+    not_true true z = absurd (false≢true z)
+    not_true false z = refl
 line_stops false t e = absurd (false≢true e)
 
 module _ (last : Bool) (s : List ℕ) (i : ℕ) (e : starts (only 47) (drop i s) ≡ true) where

@@ -18,7 +18,7 @@ use Rattle.forest.proofs.Maps.{map_places}
 use Rattle.table.specs.declared.node.Own as record_of
 use Rattle.table.specs.declared.table.Table.{Table}
 use Rattle.table.specs.Tables as table
-use Rattle.table.proofs.Seen as of-table
+use Rattle.table.proofs.Seen as of_table
 use Rattle.model.specs.Nodes.{pieces}
 use Rattle.model.specs.Asks.{tree}
 use Rattle.model.specs.Fits.{Document}
@@ -41,14 +41,14 @@ module _ (t : Table) (c : ℕ) (e : Some c ≡ first_in 0 (table.tree t)) where
     other : c ≡ 0 → ⊥
 
   first_child : First
-  first_child = go (of-table.tree_root t)
+  first_child = go (of_table.tree_root t)
     where
       take : (i : record_of.Own) (ks : Forest record_of.Own) → table.tree t ≡ node 0 i ks end → Some c ≡ head_of ks → First
       take i end q z = let w : ◌≡◌ {A = ℕ} 0 1 = cc in absurd (omega arith)
       take i (node p j js rs) q z =
           let w : p ≡ c = cc in
           let m : table.tree t ≡ node 0 i (node c j js rs) end = q ∙ ap (λ y. node 0 i (node y j js rs) end) w in
-          record { own = i; child = j; below_it = js; behind_it = rs; is = m; other = λ y. omega (arith, of-table.tree_distinct t 0, ap (λ x. count 0 x) (m ∙ ap (λ x. node 0 i (node x j js rs) end) y)) }
+          record { own = i; child = j; below_it = js; behind_it = rs; is = m; other = λ y. omega (arith, of_table.tree_distinct t 0, ap (λ x. count 0 x) (m ∙ ap (λ x. node 0 i (node x j js rs) end) y)) }
 
       go : ((i : record_of.Own) × ((ks : Forest record_of.Own) × (table.tree t ≡ node 0 i ks end))) → First
       go (i, (ks, q)) = take i ks q (e ∙ ap (λ y. first_in 0 y) q)
@@ -98,7 +98,7 @@ module _ (t : Table) (c : ℕ) (e : Some c ≡ first_in 0 (table.tree t)) where
 
 -- none is left
 pub all_gone : (t : Table) → None ≡ first_in 0 (table.tree t) → (table.tree t ≡ alone (table.tree t)) × (places (below (table.tree t)) ≡ [])
-all_gone t e = go (of-table.tree_root t)
+all_gone t e = go (of_table.tree_root t)
   where
     end_of : (i : record_of.Own) (ks : Forest record_of.Own) → table.tree t ≡ node 0 i ks end → None ≡ head_of ks → (table.tree t ≡ alone (table.tree t)) × (places (below (table.tree t)) ≡ [])
     end_of i end q z = (q ∙ sym (ap alone q), ap (λ y. places (below y)) q)
@@ -192,8 +192,8 @@ module _ (t : Tree) (v : Table) (forest : table.tree v ≡ alone (table.tree t.t
       let P : List ℕ = places (below (table.tree t.table)) in
       omega (
         arith,
-        of-table.tree_size v,
-        of-table.tree_size t.table,
+        of_table.tree_size v,
+        of_table.tree_size t.table,
         ap (λ y. size y) (root_left r),
         ap (λ y. size y) r.2,
         ap length given,
@@ -218,4 +218,4 @@ clear_sizes t =
     let l = limits t in
     let r = root_is t in
     let n : vec_len t.store ≡ length (vec_items t.store) = t.store.ok.0 in
-    (omega (arith, of-table.tree_size t.table, ap (λ y. size y) r.2), omega (arith, l.0), l.4)
+    (omega (arith, of_table.tree_size t.table, ap (λ y. size y) r.2), omega (arith, l.0), l.4)

@@ -15,7 +15,7 @@ use Rattle.table.specs.declared.kind.Kind.TheVariants.{Root, Array, Object, Prop
 use Rattle.table.specs.contracts.kind.Kind as K
 use Rattle.table.specs.declared.node.Own as record_of
 use Rattle.table.specs.Tables as table
-use Rattle.table.proofs.Seen as of-table
+use Rattle.table.proofs.Seen as of_table
 use Rattle.model.specs.Nodes.{handle, root}
 use Rattle.model.specs.Asks.{Spot, tree, then, named, numbered_so, width, spelt, spot_handle, root_handle}
 use Rattle.tree.specs.declared.tree.Tree.{Tree}
@@ -68,7 +68,7 @@ module _ (t : Tree) where
       (ap (λ y. y.number) o, root_kind i.kind (bytes_in (vec_items t.store) i) (ap (λ y. y.sort) o))
 
   pub root_is : (i : record_of.Own) × (ks : Forest record_of.Own) × (table.tree t.table ≡ node 0 i ks end) × (i.number ≡ 1) × (i.kind ≡ Root)
-  root_is = go (of-table.tree_root t.table)
+  root_is = go (of_table.tree_root t.table)
     where
       go : ((i : record_of.Own) × ((ks : Forest record_of.Own) × (table.tree t.table ≡ node 0 i ks end)))
           → (i : record_of.Own) × (ks : Forest record_of.Own) × (table.tree t.table ≡ node 0 i ks end) × (i.number ≡ 1) × (i.kind ≡ Root)
@@ -100,7 +100,7 @@ module _ (t : Tree) where
   count_is k = ap (λ y. count k y) (sym rooted) ∙ map_count (own_for (vec_items t.store)) k (table.tree t.table)
 
   pub distinct : Distinct (tree (kids t))
-  distinct k = omega (arith, count_is k, of-table.tree_distinct t.table k)
+  distinct k = omega (arith, count_is k, of_table.tree_distinct t.table k)
 
   pub root_stands : Stands 0 (kids t)
   root_stands = omega arith
@@ -186,7 +186,7 @@ module _ (t : Tree) (k n : ℕ) where
   unfolding table.holds_in told
   names_is r e =
       elim (cases_lt 0 (count k (tree (kids t)))) [
-        | inl c ↦ named_there r _ c (of-table.own_at t.table k (in_table t k c)) (e ∙ ap told (of-table.own_at t.table k (in_table t k c)))
+        | inl c ↦ named_there r _ c (of_table.own_at t.table k (in_table t k c)) (e ∙ ap told (of_table.own_at t.table k (in_table t k c)))
         | inr c ↦ subst (λ y. Names y (record { place = k; number = n }) (kids t)) (sym (e ∙ ap told (own_none k (table.tree t.table) (omega (arith, count_is t k)))))
             (ap (λ o. then o (numbered_so n)) (no_spot k [] end (tree (kids t)) (omega arith)))
       ]

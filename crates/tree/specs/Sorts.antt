@@ -8,7 +8,7 @@ use Rattle.table.specs.declared.kind.Kind.TheVariants.{Root, Array, Object, Prop
 use Rattle.table.specs.declared.kind.NewlineKind.{NewlineKind}
 use Rattle.table.specs.declared.kind.NewlineKind.TheVariants.{LineFeed, CarriageReturn, CarriageReturnLineFeed}
 use Rattle.table.specs.declared.node.Own as record_of
-use Rattle.table.specs.declared.node.Handle as handle-of
+use Rattle.table.specs.declared.node.Handle as handle_of
 use Rattle.model.specs.Nodes.{Handle, Sort, root, within, single, Own}
 
 -- the token of a character
@@ -49,7 +49,7 @@ abbrev pub own_for : List ℕ → record_of.Own → Own
 own_for s o = record { number = o.number; sort = sort_for o.kind (bytes_in s o) }
 
 -- a handle's place and number
-abbrev pub handle_for : handle-of.Handle → Handle
+abbrev pub handle_for : handle_of.Handle → Handle
 handle_for h = record { place = h.place; number = h.number }
 
 -- each node's bytes lie within the first n
