@@ -9,9 +9,10 @@ use Rattle.forest.specs.Forest.{size}
 use Rattle.forest.proofs.Maps.{map_size}
 use Rattle.table.specs.Tables as table
 use Rattle.table.proofs.Seen as of_table
-use Rattle.model.specs.Nodes.{Class, gap, mark, value, class}
+use Rattle.model.specs.Nodes.{class}
 use Rattle.model.specs.Asks.{Frame, tree, is_value, tally}
 use Rattle.model.proofs.Removes.{some_none}
+use Rattle.model.proofs.Commas.{class_is_value}
 use Rattle.tree.specs.declared.tree.Tree.{Tree}
 use Rattle.tree.specs.Sorts.{own_for}
 use Rattle.tree.specs.Well.{whole}
@@ -20,17 +21,8 @@ use Rattle.tree.specs.Steps.{spot_of, Stands}
 use Rattle.tree.proofs.Spots.{spot_stands}
 use Rattle.tree.proofs.Seen as of_Tree
 use Rattle.paths.specs.Ways.{path_of}
+use Rattle.paths.proofs.Routes.{some_same}
 use Rattle.paths.proofs.Ordinals.{ordinals, root_pathless, pathless, tally_bound, path_ordinals, ups_bound}
-
--- what is there is one
-some_same : {A : Type 0} (a b : A) → Some a ≡ Some b → a ≡ b
-some_same a b e = cc
-
--- the class of a value
-value_class : (c : Class) → is_value c ≡ true → c ≡ value
-value_class (gap g) e = let z : ◌≡◌ {A = ℕ} 0 1 = cc in absurd (omega arith)
-value_class (mark m) e = let z : ◌≡◌ {A = ℕ} 0 1 = cc in absurd (omega arith)
-value_class value e = refl
 
 module _ (t : Tree) where
   -- a tree has no more nodes than places
@@ -60,7 +52,7 @@ module _ (t : Tree) where
     path_is g us u v = go (path_of k (kids t)) refl
       where
         go : (o : Option (List ℕ)) → path_of k (kids t) ≡ o → path_of k (kids t) ≡ Some (ordinals (spot_of k (kids t)).here (spot_of k (kids t)).ups)
-        go None e = absurd (∥∥₁_elim t.ok ⊥_prop (λ w. some_none _ (sym (path_ordinals k (kids t) (spot_of k (kids t)) (of_Tree.distinct t) (spot_stands (kids t) (of_Tree.distinct t) k c) w.document g us u (value_class _ v)) ∙ e)))
+        go None e = absurd (∥∥₁_elim t.ok ⊥_prop (λ w. some_none _ (sym (path_ordinals k (kids t) (spot_of k (kids t)) (of_Tree.distinct t) (spot_stands (kids t) (of_Tree.distinct t) k c) w.document g us u (class_is_value _ v)) ∙ e)))
         go (Some p) e =
             e ∙ ap Some (∥∥₁_elim t.ok (is_set ℕ_set p (ordinals (spot_of k (kids t)).here (spot_of k (kids t)).ups))
-            (λ w. some_same _ _ (sym e ∙ path_ordinals k (kids t) (spot_of k (kids t)) (of_Tree.distinct t) (spot_stands (kids t) (of_Tree.distinct t) k c) w.document g us u (value_class _ v))))
+            (λ w. some_same _ _ (sym e ∙ path_ordinals k (kids t) (spot_of k (kids t)) (of_Tree.distinct t) (spot_stands (kids t) (of_Tree.distinct t) k c) w.document g us u (class_is_value _ v))))

@@ -13,11 +13,7 @@ use Rattle.model.proofs.Stand.{stand}
 use Rattle.model.proofs.Lying.{way_off}
 use Rattle.model.proofs.Lone.{lone, first_only}
 use Rattle.model.proofs.Whereabouts.{meaning_levels}
-use Rattle.paths.proofs.Routes.{frame, spot, Route, route, route_ups, before_size, tally_size, stem, Wayed, wayed, wayless, around_levels, ups_length}
-
--- what is there is one
-some_same : {A : Type 0} (a b : A) → Some a ≡ Some b → a ≡ b
-some_same a b e = cc
+use Rattle.paths.proofs.Routes.{some_same, frame, spot, Route, route, route_ups, before_size, tally_size, stem, Wayed, wayed, wayless, around_levels, ups_length}
 
 -- the ordinals of a node and its ancestors up to the root's value, which is left out; the outermost first
 abbrev pub ordinals : Frame → List Frame → List ℕ

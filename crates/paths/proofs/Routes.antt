@@ -32,7 +32,7 @@ pub data Route : List Frame → Nodes → Nodes → Spot → Type 0 where
   on : (us : List Frame) (bs : Nodes) (p : ℕ) (i : Own) (ks ts : Nodes) (s : Spot) → Route us (node p i ks bs) ts s → Route us bs (node p i ks ts) s
 
 -- what is there is one
-some_same : {A : Type 0} (a b : A) → Some a ≡ Some b → a ≡ b
+pub some_same : {A : Type 0} (a b : A) → Some a ≡ Some b → a ≡ b
 some_same a b e = cc
 
 -- what is found is reached, and stands at the place that was asked

@@ -63,7 +63,7 @@ fewer ks x k e =
     (omega arith, omega arith)
 
 -- so much for each node
-abbrev weight : Nodes → ℕ
+abbrev pub weight : Nodes → ℕ
 weight end = 0
 weight (node p i ks ts) = length (spelt i.sort) + (weight ks + weight ts)
 
@@ -112,13 +112,18 @@ map_few s (node p o ks ts) h =
     let l : length (bytes_in s o) ≤ 1048576 = omega (arith, length-take o.len (drop o.start s), length-drop o.start s) in
     omega (arith, kind_few o.kind (bytes_in s o) l, map_few s ks h, map_few s ts h)
 
--- so the printing is no longer than 2^36 bytes
-pub printed_few : (t : Tree) (x : Option ℕ) → Leads x (kids t) → length (print (rest x (kids t))) ≤ 68719476736
+-- so the whole tree weighs no more than 2^36 bytes
+pub weight_few : (t : Tree) → weight (tree (kids t)) ≤ 68719476736
 unfolding whole
+weight_few t =
+    let w : weight (tree (kids t)) ≡ weight (map (own_for (vec_items t.store)) (table.tree t.table)) = ap (λ y. weight y) (sym (rooted t)) in
+    let n = map_few (vec_items t.store) (table.tree t.table) (store_few t) in
+    omega (arith, of_table.tree_size t.table, of_table.records_few t.table)
+
+-- and the printing is no longer
+pub printed_few : (t : Tree) (x : Option ℕ) → Leads x (kids t) → length (print (rest x (kids t))) ≤ 68719476736
 printed_few t None l = omega arith
 printed_few t (Some k) l =
     let s : Spot = spot_of k (kids t) in
     let m = part_weight k [] end (tree (kids t)) s (spot_stands (kids t) (distinct t) k l) in
-    let w : weight (tree (kids t)) ≡ weight (map (own_for (vec_items t.store)) (table.tree t.table)) = ap (λ y. weight y) (sym (rooted t)) in
-    let n = map_few (vec_items t.store) (table.tree t.table) (store_few t) in
-    omega (arith, printed_weight (rest (Some k) (kids t)), of_table.tree_size t.table, of_table.records_few t.table)
+    omega (arith, printed_weight (rest (Some k) (kids t)), weight_few t)
