@@ -4,8 +4,6 @@ use Rattle.grammar.specs.Answer as answer
 use Rattle.grammar.specs.Layout.{notes, levels}
 use Rattle.grammar.specs.Pieces.{Pieces, nodes, stored, layout}
 use Rattle.checking.specs.declared.extent.Extent.{Extent}
-use Rattle.text.specs.declared.fault.Fault.{Fault}
-use Rattle.text.specs.declared.fault.Fault.TheVariants.{Bad, Deep}
 use Rattle.refusal.specs.declared.Refusal.{Refusal}
 use Rattle.refusal.specs.declared.Refusal.TheVariants.{BadText, TooDeep, BadMemory}
 
@@ -22,8 +20,3 @@ judged answer.TooDeep = Err TooDeep
 -- the whole order of refusals: first a text that is too long, then what the reader of 64 levels says
 abbrev pub checked : List ℕ → Result Extent Refusal
 checked s = cond (nat_lt 1048576 (length s)) (Err BadMemory) (judged (answer.read 64 s))
-
--- the refusal that a fault leads to
-abbrev pub refusal_for : Fault → Refusal
-refusal_for (Bad p) = BadText p
-refusal_for Deep = TooDeep

@@ -1,7 +1,6 @@
 //! A sink that only counts.
 
-ghost use Rattle.std.specs.Prelude.{◌≡◌, ℕ, List, length};
-ghost use Rattle.grammar.specs.Pieces.{kept};
+ghost use Rattle.std.specs.Prelude.{◌≡◌, ℕ, List};
 ghost use Rattle.checking.specs.Counted.{Counted, level, onward, remark, still};
 ghost use Rattle.text.specs.Events.{box_for, leaf_for};
 
@@ -47,51 +46,18 @@ impl Counter {
     }
 }
 
-/// How many bytes of the leaf are stored.
-fn stored_of(kind: LeafKind, bytes: &[u8]) -> usize
-    ensures { result ≡ length (kept (leaf_for kind bytes.now)) }
-{
-    match kind {
-        LeafKind::Null => 0,
-        LeafKind::Boolean(_) => 0,
-        LeafKind::Number => bytes.len(),
-        LeafKind::String => bytes.len(),
-        LeafKind::Name => bytes.len(),
-        LeafKind::Token(_) => 0,
-        LeafKind::Whitespace => bytes.len(),
-        LeafKind::Newline(_) => 0,
-        LeafKind::LineComment => bytes.len(),
-        LeafKind::BlockComment => bytes.len(),
-    }
-}
-
 /// How many comments the leaf is.
 fn comments_of(kind: LeafKind) -> usize
     ensures { (t : List ℕ) → result ≡ remark (leaf_for kind t) }
 {
-    match kind {
-        LeafKind::Null => 0,
-        LeafKind::Boolean(_) => 0,
-        LeafKind::Number => 0,
-        LeafKind::String => 0,
-        LeafKind::Name => 0,
-        LeafKind::Token(_) => 0,
-        LeafKind::Whitespace => 0,
-        LeafKind::Newline(_) => 0,
-        LeafKind::LineComment => 1,
-        LeafKind::BlockComment => 1,
-    }
+    usize::from(matches!(kind, LeafKind::LineComment | LeafKind::BlockComment))
 }
 
 /// How many levels the container is.
 fn levels_of(container: Container) -> usize
     ensures { result ≡ level (box_for container) }
 {
-    match container {
-        Container::Array => 1,
-        Container::Object => 1,
-        Container::Property => 0,
-    }
+    usize::from(matches!(container, Container::Array | Container::Object))
 }
 
 impl Sink for Counter {
@@ -103,7 +69,7 @@ impl Sink for Counter {
 
     fn put(&mut self, kind: LeafKind, bytes: &[u8]) {
         self.nodes = self.nodes.saturating_add(1);
-        self.stored = self.stored.saturating_add(stored_of(kind, bytes));
+        self.stored = self.stored.saturating_add(kind.kept(bytes).len());
         self.comments = self.comments.saturating_add(comments_of(kind));
     }
 

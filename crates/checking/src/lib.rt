@@ -5,7 +5,7 @@ pub mod counter;
 pub mod extent;
 
 ghost use Rattle.std.specs.Prelude.{◌≡◌};
-ghost use Rattle.checking.specs.Checked.{checked, refusal_for};
+ghost use Rattle.checking.specs.Checked.{checked};
 ghost use Rattle.grammar.specs.Answer.{Right};
 
 use counter::Counter;
@@ -16,16 +16,6 @@ use text::values::read_text;
 
 /// The longest text that is taken.
 pub const MAX_TEXT: usize = 1_048_576;
-
-/// The refusal that a fault leads to.
-fn refusal_of(fault: Fault) -> Refusal
-    ensures { result ≡ refusal_for fault }
-{
-    match fault {
-        Fault::Bad(p) => Refusal::BadText(p),
-        Fault::Deep => Refusal::TooDeep,
-    }
-}
 
 /// Whether the text is a house file, and how large its document is. The answer is the reader's, and the reader is right: it takes exactly the sentences of
 /// at most 64 levels, and stops exactly where a text stops beginning one.
@@ -38,12 +28,8 @@ pub fn check_text(text: &[u8]) -> Result<Extent, Refusal>
     }
     let mut counter = Counter::new();
     match read_text(text, &mut counter) {
-        Ok(end) => {
-            if end < text.len() {
-                return Err(Refusal::BadText(end));
-            }
-            Ok(counter.extent())
-        }
-        Err(fault) => Err(refusal_of(fault)),
+        Ok([]) => Ok(counter.extent()),
+        Ok(rest) | Err(Fault::Bad(rest)) => Err(Refusal::BadText(text.len() - rest.len())),
+        Err(Fault::Deep) => Err(Refusal::TooDeep),
     }
 }

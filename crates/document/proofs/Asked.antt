@@ -1,5 +1,5 @@
 -- What a question answers of what is loaded: of a handle that is Gone, and of one that names a node.
-use Rattle.std.proofs.Common.{◌≡◌, ℕ, ◌<◌, false, IsErrAnd, Some, None, Err, Result, sym, ap, ◌∙◌, arith}
+use Rattle.std.proofs.Common.{◌≡◌, ◌<◌, Bool, true, false, IsErrAnd, Some, Ok, Err, Result, sym, refl, ap, ◌∙◌, arith}
 use Rattle.std.proofs.lemmas.Result.{err_from_is_err_and}
 use Rattle.std.proofs.lemmas.Bool.{ne_eqb, cond-false}
 use Rattle.forest.specs.Forest.{size}
@@ -8,11 +8,12 @@ use Rattle.refusal.specs.declared.Refusal.TheVariants.{BadMemory, Gone}
 use Rattle.table.specs.Tables as table
 use Rattle.table.proofs.Seen as of_table
 use Rattle.model.specs.Nodes.{Handle}
-use Rattle.model.specs.Asks.{Spot, named}
-use Rattle.model.specs.State.{Outcome, Refused, State, unless, and_then, present, unloaded, spotted, asking}
+use Rattle.model.specs.Asks.{Spot}
+use Rattle.model.specs.State.{Outcome, Given, Refused, State, unless, and_then, present, unloaded, spotted, asking}
 use Rattle.tree.specs.declared.tree.Tree.{Tree}
-use Rattle.tree.specs.Trees.{kids, state}
-use Rattle.tree.specs.Steps.{spot_of}
+use Rattle.tree.specs.declared.node.Node.{Node}
+use Rattle.tree.specs.Trees.{state}
+use Rattle.tree.specs.Steps.{spot, Found}
 use Rattle.tree.proofs.Seen.{root_is}
 use Rattle.document.specs.declared.document.Document.{Document}
 use Rattle.document.specs.Documents.{state_of, state_in, told}
@@ -32,13 +33,24 @@ module _ (d : Document) (t : Tree) (e : d.tree ≡ Some t) where
   pub plainly : {A : Type 0} (f : State → Outcome A) → unless (unloaded (state_of d)) BadMemory (f (state_of d)) ≡ f (state t)
   plainly f = ap (λ s. unless (unloaded s) BadMemory (f s)) state_is ∙ cond-false (unloaded (state t)) (Refused BadMemory) (f (state t)) (is_loaded t)
 
-  module _ {A : Type 0} (h : Handle) (f : Spot → Outcome A) where
-    pub gone : named h (kids t) ≡ None → asking (state_of d) h f ≡ Refused Gone
-    gone z = plainly (λ s. and_then (spotted s h) f) ∙ ap (λ o. and_then (present Gone o) f) z
+  -- what a tree finds is what the document is asked
+  pub found_told : (h : Handle) (r : Result Node Refusal) → Found r h t → told spot r ≡ asking (state_of d) h Given
+  found_told h (Ok n) (a, b, p) = sym (plainly (λ s. and_then (spotted s h) Given) ∙ ap (λ o. and_then (present Gone o) Given) b)
+  found_told h (Err x) (a, b) = ap Refused a ∙ sym (plainly (λ s. and_then (spotted s h) Given) ∙ ap (λ o. and_then (present Gone o) Given) b)
 
-    pub here : (k : ℕ) → named h (kids t) ≡ Some (spot_of k (kids t)) → asking (state_of d) h f ≡ f (spot_of k (kids t))
-    here k z = plainly (λ s. and_then (spotted s h) f) ∙ ap (λ o. and_then (present Gone o) f) z
+-- what is asked of the node that a handle names: it is asked of the node that was found, or what refused the search refuses it
+module _ {A : Type 0} (d : State) (h : Handle) (f : Spot → Outcome A) where
+  asked : asking d h f ≡ and_then (asking d h Given) f
+  asked = go (unloaded d) (spotted d h)
+    where
+      go : (b : Bool) (o : Outcome Spot) → unless b BadMemory (and_then o f) ≡ and_then (unless b BadMemory (and_then o Given)) f
+      go true o = refl
+      go false (Given s) = refl
+      go false (Refused e) = refl
 
-    -- the exit where it is Gone
-    pub gone_exit : {B : Type 0} (g : B → A) (r : Result B Refusal) (x : Refusal) → IsErrAnd r (λ y. y ≡ x) → x ≡ Gone → named h (kids t) ≡ None → told g r ≡ asking (state_of d) h f
-    gone_exit g r x y w z = (let p = err_from_is_err_and r y in ap (told g) (p.1 ∙ ap Err (p.2 ∙ w)) ∙ sym (gone z))
+  pub here : (s : Spot) → Given s ≡ asking d h Given → asking d h f ≡ f s
+  here s e = asked ∙ ap (λ o. and_then o f) (sym e)
+
+  -- the exit where none was found
+  pub refused_exit : {B : Type 0} (g : B → A) (r : Result B Refusal) (x : Refusal) → IsErrAnd r (λ y. y ≡ x) → Refused x ≡ asking d h Given → told g r ≡ asking d h f
+  refused_exit g r x y e = (let p = err_from_is_err_and r y in ap (told g) (p.1 ∙ ap Err p.2) ∙ sym (asked ∙ ap (λ o. and_then o f) (sym e)))

@@ -12,9 +12,6 @@ impl Document {
         ensures answer { (w : Work) → done result ≡ outcome (state_of self.old) w Clear }
         ensures state { (w : Work) → state_of self.new ≡ after (state_of self.old) w Clear }
     {
-        match &mut self.tree {
-            Some(tree) => tree.clear(),
-            None => Err(Refusal::BadMemory),
-        }
+        self.tree.as_mut().ok_or(Refusal::BadMemory)?.clear()
     }
 }

@@ -9,12 +9,7 @@ impl Document {
         ensures loaded { Loads records store text.now self.old self.new result }
         ensures promise { Promises text.now self.new result }
     {
-        match load_tree(self.heap, records, store, text) {
-            Ok(tree) => {
-                self.tree = Some(tree);
-                Ok(())
-            }
-            Err(error) => Err(error),
-        }
+        self.tree = Some(load_tree(self.heap, records, store, text)?);
+        Ok(())
     }
 }

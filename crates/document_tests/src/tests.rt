@@ -1,5 +1,5 @@
-use cst::{Document, Handle, LoadError, NodeKind, Refusal, at, path, print, text};
-use replay::{Answer, Call, replay};
+use cst::{Document, LoadError, NodeKind, Refusal, at, path, print, text};
+use replay::{Answer, Buffers, Call, Start, replay};
 
 /// 18 nodes, 16 bytes to store, 23 bytes.
 const HOUSE: &[u8] = b"{\"F\": [11, 12]} // row\n";
@@ -37,13 +37,10 @@ fn prints_what_was_loaded(rt: HostRuntime) {
 }
 
 #[test]
-fn a_late_handle_is_gone(rt: HostRuntime) {
+fn a_late_handle_is_gone(rt: HostRuntime) -> Result<(), Refusal> {
     let mut document = Document::new(rt.alloc());
     assert!(rt; document.load(18, 16, HOUSE) == Ok(()));
-    let seat = at(&document, &[0, 0, 1]).unwrap_or(Handle {
-        place: 0,
-        number: 0,
-    });
+    let seat = at(&document, &[0, 0, 1])?;
     assert!(rt; document.kind(seat) == Ok(NodeKind::Number));
     let mut bytes = [0; 2];
     assert!(rt; text(&document, seat, &mut bytes) == Ok(2));
@@ -56,6 +53,7 @@ fn a_late_handle_is_gone(rt: HostRuntime) {
     assert!(rt; at(&document, &[0, 0, 1]) == Err(Refusal::NotHere));
     assert!(rt; document.edits() == Ok(1));
     assert!(rt; print(&document, &mut []) == Ok(0));
+    Ok(())
 }
 
 #[test]
@@ -69,17 +67,17 @@ fn replays_a_list_of_calls(rt: HostRuntime) {
     ];
     let mut answers = [Answer::Done; 4];
     let mut bytes = [0; 23];
-    let done = replay(
-        &mut document,
-        18,
-        16,
-        HOUSE,
-        &calls,
-        &mut answers,
-        &mut bytes,
-        &mut [],
-        &mut [],
-    );
+    let start = Start {
+        records: 18,
+        store: 16,
+        text: HOUSE,
+    };
+    let mut buffers = Buffers {
+        bytes: &mut bytes,
+        ordinals: &mut [],
+        queue: &mut [],
+    };
+    let done = replay(&mut document, start, &calls, &mut answers, &mut buffers);
     assert!(rt; done == Ok(()));
     assert!(rt; matches!(answers[0], Answer::Node(_)));
     assert!(rt; matches!(answers[1], Answer::Count(23)));

@@ -1,8 +1,7 @@
 -- A buffer filled from the end of a part backwards. Assumes nothing.
-use Rattle.std.proofs.Common.{◌≡◌, ℕ, ◌+◌, ◌≤◌, List, [], ◌++◌, length, take, drop, sym, ap, ◌∙◌, append_assoc, arith, length-append, length-take-le}
+use Rattle.std.proofs.Common.{◌≡◌, ℕ, ◌+◌, ◌≤◌, List, ◌++◌, length, take, drop, sym, ap, ◌∙◌, append_assoc, arith, length-append, length-take-le}
 use lib.Seq.{drop-append-add}
 use Rattle.printing.specs.Buffers.{over}
-use Rattle.printing.proofs.Written.{over_none}
 
 -- the last bytes first, and then those before them
 over_before : (out B s : List ℕ) → length B + length s ≤ length out → over (over out (length B) s) 0 B ≡ over out 0 (B ++ s)
@@ -16,7 +15,3 @@ over_before out B s h =
 pub turn_back : (out out1 T B s : List ℕ) (n : ℕ) → T ≡ B ++ s → n ≡ length B → out1 ≡ over out n s → length T ≤ length out → over out1 0 B ≡ over out 0 T
 turn_back out out1 T B s n t e w h =
     ap (λ z. over z 0 B) w ∙ (ap (λ m. over (over out m s) 0 B) e ∙ (over_before out B s (omega (arith, ap length t, length-append B s)) ∙ ap (over out 0) (sym t)))
-
--- at the end nothing is left to write
-pub all_written : (out T : List ℕ) → T ≡ [] → over out 0 T ≡ out
-all_written out T e = ap (over out 0) e ∙ over_none out 0

@@ -1,4 +1,4 @@
 pub mod Gathered
 pub mod Weights
 pub mod Backwards
-pub mod Filled
+pub mod Summed

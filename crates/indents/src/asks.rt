@@ -6,7 +6,7 @@ ghost use Rattle.tree.specs.Sorts.{handle_for};
 ghost use Rattle.document.specs.Documents.{state_of};
 ghost use Rattle.printing.specs.Buffers.{FillsOr};
 
-use crate::blanks::{blanks_size, indent_start, write_blanks};
+use crate::blanks::{blanks_size, indent_end, write_blanks};
 use document::Document;
 use refusal::Refusal;
 use table::Handle;
@@ -19,16 +19,14 @@ pub fn indent_text(
 ) -> Result<Option<usize>, Refusal>
     ensures { FillsOr (indent_answer (state_of document.now) (handle_for handle) (length out.old)) out.old out.new result }
 {
-    let tree = document.loaded()?;
-    let place = tree.find(handle)?;
-    let start = indent_start(tree, tree.previous(place));
-    if start.is_none() {
+    let node = document.find(handle)?;
+    let Some(end) = indent_end(node) else {
         return Ok(None);
-    }
-    let size = blanks_size(tree, start);
+    };
+    let size = blanks_size(end);
     if out.len() < size {
         return Err(Refusal::Short(size));
     }
-    write_blanks(tree, start, out, size);
+    write_blanks(end, out, size);
     Ok(Some(size))
 }

@@ -1,92 +1,58 @@
 //! Walks back over the Whitespace before a node.
 
 ghost use Rattle.std.specs.Prelude.{◌≡◌, ◌≤◌, length};
-ghost use Rattle.model.specs.Nodes.{class as class_of};
-ghost use Rattle.model.specs.Asks.{indent_before, is_blank};
-ghost use Rattle.tree.specs.Trees.{kids};
-ghost use Rattle.tree.specs.Steps.{spot_of, Stands, Leads, back};
+ghost use Rattle.std.specs.Option.{option_map};
+ghost use Rattle.model.specs.Asks.{indent_text};
+ghost use Rattle.tree.specs.Steps.{spot};
 ghost use Rattle.printing.specs.Buffers.{over};
-ghost use Rattle.indents.specs.Blanks.{blanks, blanks_from};
+ghost use Rattle.indents.specs.Blanks.{blanks};
 
 use printing::buffers::put;
-use table::Place;
-use tree::{Class, Tree};
+use tree::{Class, Node};
 
-/// Whether the node is Whitespace.
-fn is_blank(tree: &Tree, place: Place) -> bool
-    requires { Stands place (kids tree.now) }
-    ensures { result ≡ is_blank (class_of (spot_of place (kids tree.now)).here.own.sort) }
+/// The node that stands right behind the indent of the node's line; absent if there is no Whitespace, or something else stands before the node too.
+#[tactic(auto, using(crate::proofs::Gathered::begins))]
+pub fn indent_end(node: Node<'_>) -> Option<Node<'_>>
+    ensures { option_map (λ n. blanks (spot n).here.before) result ≡ indent_text (spot node.entry) }
 {
-    match tree.class(place) {
-        Class::Blank => true,
-        Class::Break => false,
-        Class::Remark => false,
-        Class::Comma => false,
-        Class::Mark => false,
-        Class::Value => false,
-    }
-}
-
-/// The nearest Whitespace of the indent that stands from there back.
-pub fn indent_start(tree: &Tree, from: Option<Place>) -> Option<Place>
-    requires { Leads from (kids tree.now) }
-    ensures there { Leads result (kids tree.now) }
-    ensures indent { blanks_from result (kids tree.now) ≡ indent_before (back from (kids tree.now)) }
-{
-    let mut step = from;
-    let mut start = None;
-    while let Some(place) = step {
-        match tree.class(place) {
-            Class::Blank => {
-                start = start.or(step);
-                step = tree.previous(place);
-            }
-            Class::Break => return start,
-            Class::Remark => {
-                start = None;
-                step = tree.previous(place);
-            }
-            Class::Comma => return None,
-            Class::Mark => return None,
-            Class::Value => return None,
+    let mut behind = node;
+    let mut end = None;
+    for sibling in node.preceding() {
+        match sibling.class() {
+            Class::Blank => end = end.or(Some(behind)),
+            Class::Break => return end,
+            Class::Remark => end = None,
+            Class::Comma | Class::Mark | Class::Value => return None,
         }
+        behind = sibling;
     }
-    start
+    end
 }
 
-/// How many bytes the Whitespace from there back has.
-pub fn blanks_size(tree: &Tree, from: Option<Place>) -> usize
-    requires { Leads from (kids tree.now) }
-    ensures { result ≡ length (blanks (back from (kids tree.now))) }
+/// How many bytes the Whitespace right before the node has.
+pub fn blanks_size(node: Node<'_>) -> usize
+    ensures { result ≡ length (blanks (spot node.entry).here.before) }
 {
-    let mut step = from;
-    let mut total = 0;
-    while let Some(place) = step {
-        if !is_blank(tree, place) {
-            return total;
-        }
-        total += tree.spelling(place).len();
-        step = tree.previous(place);
-    }
-    total
+    node.preceding()
+        .take_while(|sibling| sibling.is_blank())
+        .map(|sibling| sibling.spelling().len())
+        .sum()
 }
 
-/// Writes the Whitespace from there back at the start of the buffer, the nearest last, so that it ends at `size`.
-pub fn write_blanks(tree: &Tree, from: Option<Place>, out: &mut [u8], size: usize)
-    requires there { Leads from (kids tree.now) }
-    requires size { size ≡ length (blanks (back from (kids tree.now))) }
+/// Writes the Whitespace right before the node at the start of the buffer, the nearest last, so that it ends at `size`.
+#[tactic(auto, using(crate::proofs::Gathered::begins))]
+pub fn write_blanks(node: Node<'_>, out: &mut [u8], size: usize)
+    requires size { size ≡ length (blanks (spot node).here.before) }
     requires room { size ≤ length out.old }
-    ensures { out.new ≡ over out.old 0 (blanks (back from (kids tree.now))) }
+    ensures { out.new ≡ over out.old 0 (blanks (spot node.entry).here.before) }
 {
-    let mut step = from;
     let mut end = size;
-    while let Some(place) = step {
-        if !is_blank(tree, place) {
+    for sibling in node.preceding() {
+        if !sibling.is_blank() {
             return;
         }
-        let bytes = tree.spelling(place);
+        let bytes = sibling.spelling();
         end -= bytes.len();
         let _ = put(out, end, bytes);
-        step = tree.previous(place);
     }
 }

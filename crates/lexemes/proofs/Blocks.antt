@@ -1,11 +1,13 @@
 -- One turn of a block comment. Assumes nothing.
-use Rattle.std.proofs.Common.{◌≡◌, ℕ, ◌+◌, ◌<◌, ◌≤◌, true, false, ◌⊎◌, List, [], ◌∷◌, length, get_or, drop, Result, ap, ◌∙◌, inl, inr, arith}
-use Rattle.grammar.specs.Parse.{ok, res, map_r, Parser, starts, one_p, eps_p, bind, seq_p, pick, alt_p}
+use Rattle.std.proofs.Common.{◌≡◌, ℕ, ◌⊎◌, List, [], ◌∷◌, Result, ap, ◌∙◌, inl, inr}
+use Rattle.std.specs.Borrow.{Bor}
+use Rattle.grammar.specs.Parse.{map_r, Parser, one_p, eps_p, bind, seq_p, pick, alt_p}
 use Rattle.grammar.specs.Classes.{only, InBlock}
-use Rattle.grammar.specs.Reader.{char_p, block_turn, block_turn_p, block_p}
+use Rattle.grammar.specs.Reader.{byte_p, char_p, block_turn, block_turn_p, block_p}
+use Rattle.lexemes.specs.declared.mismatch.Mismatch.{Mismatch}
 use Rattle.lexemes.specs.Scan.{Fails, Passes, Goes}
-use Rattle.lexemes.proofs.Ties.{one_reads, loop_more, loop_done, loop_fails}
-use Rattle.lexemes.proofs.Lexed.{block_turns, bytes_char, bytes_moves}
+use Rattle.lexemes.proofs.Ties.{left_on, one_is, byte_split, byte_starts, byte_none, loop_more, loop_done}
+use Rattle.lexemes.proofs.Lexed.{block_turns}
 
 abbrev slash_p : Parser (ℕ ⊎ Unit {0})
 slash_p = alt_p (only 47) (one_p (only 47)) eps_p
@@ -13,43 +15,35 @@ slash_p = alt_p (only 47) (one_p (only 47)) eps_p
 abbrev star_p : Parser (ℕ × (ℕ ⊎ Unit {0}))
 star_p = seq_p (one_p (only 42)) slash_p
 
-module _ (s : List ℕ) (i : ℕ) where
-  -- a star, and what comes behind it
-  starred : starts (only 42) (drop i s) ≡ true → block_turn_p (drop i s) ≡ map_r block_turn (map_r inl (map_r (λ w. (get_or s i 0, w)) (slash_p (drop (i + 1) s))))
-  starred e =
-      ap (λ v. map_r block_turn (pick v star_p (char_p InBlock) (drop i s))) e
-      ∙ ap (λ z. map_r block_turn (map_r inl (bind slash_p z))) (one_reads (only 42) s i e).reads
+module _ (s t : List ℕ) (x : Passes (byte_p (only 42)) s t) where
+  abbrev star : ℕ
+  star = (byte_split (only 42) s t x).0
 
-  pub block_close : starts (only 42) (drop i s) ≡ true → starts (only 47) (drop (i + 1) s) ≡ true → Passes block_p s i (i + 2)
-  block_close e f =
-      let two : i + 1 + 1 ≡ i + 2 = omega arith in
-      let x = one_reads (only 47) s (i + 1) f in
-      let g = x.fits in
-      loop_done block_turn_p block_turns s i (i + 2) (get_or s i 0 ∷ get_or s (i + 1) 0 ∷ []) (record {
-        fits = omega arith;
-        reads = starred e
-            ∙ ap (λ v. map_r block_turn (map_r inl (map_r (λ w. (get_or s i 0, w)) (pick v (one_p (only 47)) eps_p (drop (i + 1) s))))) f
-            ∙ ap (λ z. map_r block_turn (map_r inl (map_r (λ w. (get_or s i 0, w)) (map_r inl z)))) x.reads
-            ∙ ap (λ n. res (ok (inr (get_or s i 0 ∷ get_or s (i + 1) 0 ∷ []))) (drop n s)) two;
+  -- a star, and what comes behind it
+  starred : block_turn_p s ≡ map_r block_turn (map_r inl (map_r (λ w. (star, w)) (slash_p t)))
+  starred =
+      ap (λ v. map_r block_turn (pick v star_p (char_p InBlock) s)) (byte_starts (only 42) s t x)
+      ∙ ap (λ z. map_r block_turn (map_r inl (bind slash_p z))) (one_is (only 42) s t x)
+
+  pub block_close : (u : List ℕ) → Passes (byte_p (only 47)) t u → Passes block_p s u
+  block_close u y =
+      loop_done block_turn_p block_turns s u (star ∷ (byte_split (only 47) t u y).0 ∷ []) (record {
+        left = left_on s t u x.1.left y.1.left;
+        reads = starred
+            ∙ ap (λ v. map_r block_turn (map_r inl (map_r (λ w. (star, w)) (pick v (one_p (only 47)) eps_p t)))) (byte_starts (only 47) t u y)
+            ∙ ap (λ z. map_r block_turn (map_r inl (map_r (λ w. (star, w)) (map_r inl z)))) (one_is (only 47) t u y);
       })
 
-  pub block_star : starts (only 42) (drop i s) ≡ true → starts (only 47) (drop (i + 1) s) ≡ false → (r : Result ℕ ℕ) → Goes block_p s (i + 1) r → Goes block_p s i r
-  block_star e f r g =
-      loop_more block_turn_p block_turns s i (i + 1) (get_or s i 0 ∷ []) (record {
-        fits = (one_reads (only 42) s i e).fits;
-        reads = starred e ∙ ap (λ v. map_r block_turn (map_r inl (map_r (λ w. (get_or s i 0, w)) (pick v (one_p (only 47)) eps_p (drop (i + 1) s))))) f;
+  pub block_star : (u : List ℕ) → Fails (byte_p (only 47)) t u → (r : Result (Bor (List ℕ)) Mismatch) → Goes block_p t r → Goes block_p s r
+  block_star u y r g =
+      loop_more block_turn_p block_turns s t (star ∷ []) (record {
+        left = x.1.left;
+        reads = starred ∙ ap (λ v. map_r block_turn (map_r inl (map_r (λ w. (star, w)) (pick v (one_p (only 47)) eps_p t)))) (byte_none (only 47) t u y);
       }) r g
 
-  plain : starts (only 42) (drop i s) ≡ false → block_turn_p (drop i s) ≡ map_r block_turn (map_r inr (char_p InBlock (drop i s)))
-  plain e = ap (λ v. map_r block_turn (pick v star_p (char_p InBlock) (drop i s))) e
+module _ (s u : List ℕ) (y : Fails (byte_p (only 42)) s u) (t : List ℕ) where
+  plain : block_turn_p s ≡ map_r block_turn (map_r inr (char_p InBlock s))
+  plain = ap (λ v. map_r block_turn (pick v star_p (char_p InBlock) s)) (byte_none (only 42) s u y)
 
-  pub block_char : starts (only 42) (drop i s) ≡ false → (j : ℕ) → Passes (char_p InBlock) s i j → (r : Result ℕ ℕ) → Goes block_p s j r → Goes block_p s i r
-  block_char e j x r g =
-      loop_more block_turn_p block_turns s i j x.0 (record { fits = x.1.fits; reads = plain e ∙ ap (λ z. map_r block_turn (map_r inr z)) x.1.reads }) r g
-
-  pub block_fails : starts (only 42) (drop i s) ≡ false → (j : ℕ) → Fails (char_p InBlock) s i j → Fails block_p s i j
-  block_fails e j x =
-      loop_fails block_turn_p block_turns s i j (record { fits = x.fits; fails = plain e ∙ ap (λ z. map_r block_turn (map_r inr z)) x.fails })
-
-  pub block_moves : i ≤ length s → (j : ℕ) → Passes (char_p InBlock) s i j → i < j
-  block_moves le j x = let m = bytes_moves 1 (char_p InBlock) (bytes_char InBlock) s i j x.0 le x.1 in omega arith
+  pub block_char : Passes (char_p InBlock) s t → (r : Result (Bor (List ℕ)) Mismatch) → Goes block_p t r → Goes block_p s r
+  block_char x r g = loop_more block_turn_p block_turns s t x.0 (record { left = x.1.left; reads = plain ∙ ap (λ z. map_r block_turn (map_r inr z)) x.1.reads }) r g

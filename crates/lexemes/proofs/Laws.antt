@@ -1,6 +1,5 @@
 -- What a parser takes off the text is what its answer stands for, and a loop's turns go on only past a byte. Assumes nothing.
-use Rattle.std.proofs.Common.{◌≡◌, ℕ, zero, suc, ◌+◌, ◌-◌, ◌<◌, ◌≤◌, Bool, true, false, cond, ◌⊎◌, List, [], ◌∷◌, ◌++◌, length, take, drop, sym, refl, ap, ◌∙◌, subst, inl, inr, append_assoc, arith, length-append, length-drop, take_all}
-use lib.Seq.{take-append-le}
+use Rattle.std.proofs.Common.{◌≡◌, ℕ, zero, suc, ◌+◌, ◌<◌, ◌≤◌, Bool, true, false, cond, ◌⊎◌, List, [], ◌∷◌, ◌++◌, length, sym, refl, ap, ◌∙◌, subst, inl, inr, append_assoc, arith, length-append}
 use Rattle.std.proofs.lemmas.Bool.Decides.{nat_tests}
 use Rattle.grammar.specs.Parse.{ok, bad, deep, Res, res, map_r, Parser, Class, within, starts, one_p, eps_p, bind, seq_p, pick, alt_p, map_p, onto, turn, loop, iter_p}
 use Rattle.grammar.specs.Classes.{only}
@@ -142,21 +141,13 @@ module _ {A B : Type 0} (g : A → List ℕ) (g2 : B → List ℕ) (p : Parser (
   pub iter_turn : (s : List ℕ) → iter_p p s ≡ turn (iter_p p) (p s)
   iter_turn s = turn_same (loop (length s) p) (iter_p p) s (p s) (h s) (λ t lt. loop_same (length s) (suc (length t)) t lt (omega arith))
 
--- what is read stands between the two places
-module _ {A : Type 0} (g : A → List ℕ) (lo : A → ℕ) (p : Parser A) (h : Law g lo p) (s : List ℕ) (i j : ℕ) (a : A) (le : i ≤ length s) (r : Reads p s i a j) where
-  split : Law1 g lo (drop i s) (res (ok a) (drop j s))
-  split = subst (Law1 g lo (drop i s)) r.reads (h (drop i s))
+-- what is read stands in front of what is left
+module _ {A : Type 0} (g : A → List ℕ) (lo : A → ℕ) (p : Parser A) (h : Law g lo p) (s t : List ℕ) (a : A) (r : Reads p s a t) where
+  split : Law1 g lo s (res (ok a) t)
+  split = subst (Law1 g lo s) r.reads (h s)
 
-  pub law_moves : i + lo a ≤ j
-  law_moves =
-      let m = split in
-      let l = ap length m.0 ∙ length-append (g a) (drop j s) in
-      omega (arith, l, m.1, length-drop i s, length-drop j s, r.fits)
+  pub law_part : s ≡ g a ++ t
+  law_part = split.0
 
-  pub law_part : g a ≡ take (j - i) (drop i s)
-  law_part =
-      let m = split in
-      let l : length s - i ≡ length (g a) + (length s - j) = sym (length-drop i s) ∙ ap length m.0 ∙ length-append (g a) (drop j s) ∙ ap (λ z. length (g a) + z) (length-drop j s) in
-      let f = r.fits in
-      let k : j - i ≤ length (g a) = omega arith in
-      sym (ap (take (j - i)) m.0 ∙ take-append-le (j - i) (g a) (drop j s) k ∙ take_all (j - i) (g a) (omega arith))
+  pub law_moves : length t + lo a ≤ length s
+  law_moves = omega (arith, ap length law_part, length-append (g a) t, split.1)

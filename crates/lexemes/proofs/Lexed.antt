@@ -1,10 +1,10 @@
 -- Each lexeme's bytes are what stands in the text. Assumes nothing.
-use Rattle.std.proofs.Common.{◌≡◌, ℕ, ◌+◌, ◌-◌, ◌≤◌, ◌⊎◌, List, [], ◌∷◌, ◌++◌, length, take, drop, refl, ap, inl, inr, arith}
+use Rattle.std.proofs.Common.{◌≡◌, ℕ, ◌+◌, ◌≤◌, ◌⊎◌, List, [], ◌∷◌, ◌++◌, refl, ap, inl, inr, arith}
 use Rattle.grammar.specs.Parse.{Parser, Class, one_p, eps_p, seq_p, alt_p, iter_p}
 use Rattle.grammar.specs.Classes.{only, Tail, MultiFirst, Digit, Digit1To9, Exponent, Signs, Hex, Escaped, Plain, InBlock}
 use Rattle.grammar.specs.Reader.{either, or_p, byte_p, empty_p, cat_p, word_p, run_p, concats, loop_b, many_p, tail_p, two_p, three_p, four_p, multi_p, char_p, chars_p, minus_p, digits_p, int_p, frac_p, power_p, exp_p, number_p, hex_p, unicode_p, escape_p, string_char_p, StringFirst, string_p, block_turn, block_turn_p, block_p}
 use Rattle.lexemes.specs.Scan.{Reads}
-use Rattle.lexemes.proofs.Laws.{Law, law_one, law_eps, law_run, law_map, law_less, law_seq, sum2, law_alt, concat, law_iter, law_moves, law_part}
+use Rattle.lexemes.proofs.Laws.{Law, law_one, law_eps, law_run, law_map, law_less, law_seq, sum2, law_alt, concat, law_iter, law_part}
 use Rattle.lexemes.proofs.Ties.{goes, Turns}
 
 -- the answer is what was read, l bytes at least
@@ -160,9 +160,6 @@ block_turns =
 pub bytes_block : Bytes 0 block_p
 bytes_block = bytes_loop block_turn_p block_turns
 
--- what a lexeme's parser reads is what stands between the two places
-pub bytes_moves : (l : ℕ) (p : Parser (List ℕ)) → Bytes l p → (s : List ℕ) (i j : ℕ) (a : List ℕ) → i ≤ length s → Reads p s i a j → i + l ≤ j
-bytes_moves l p h s i j a le r = law_moves (λ x. x) (λ _. l) p h s i j a le r
-
-pub bytes_part : (l : ℕ) (p : Parser (List ℕ)) → Bytes l p → (s : List ℕ) (i j : ℕ) (a : List ℕ) → i ≤ length s → Reads p s i a j → a ≡ take (j - i) (drop i s)
-bytes_part l p h s i j a le r = law_part (λ x. x) (λ _. l) p h s i j a le r
+-- what a lexeme's parser reads stands in front of what it leaves
+pub bytes_part : (l : ℕ) (p : Parser (List ℕ)) → Bytes l p → (s t a : List ℕ) → Reads p s a t → s ≡ a ++ t
+bytes_part l p h s t a r = law_part (λ x. x) (λ _. l) p h s t a r

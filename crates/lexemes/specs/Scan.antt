@@ -1,22 +1,28 @@
--- What a function that looks for the end of a lexeme answers, in terms of the parser of that lexeme. Assumes nothing.
-use Rattle.std.specs.Prelude.{◌≡◌, ℕ, ◌≤◌, List, length, drop, Ok, Err, Result}
+-- What a function that reads a lexeme answers, in terms of the parser of that lexeme. Assumes nothing.
+use Rattle.std.specs.Prelude.{◌≡◌, ℕ, List, ◌++◌, Ok, Err, Result}
+use Rattle.std.specs.Borrow.{Bor}
 use Rattle.grammar.specs.Parse.{ok, bad, res, Parser}
+use Rattle.lexemes.specs.declared.mismatch.Mismatch.{Mismatch}
 
--- from the place i the parser reads a, up to the place j
-pub record Reads {A : Type 0} (p : Parser A) (s : List ℕ) (i : ℕ) (a : A) (j : ℕ) : Type 0 where
-  pub fits : j ≤ length s
-  pub reads : p (drop i s) ≡ res (ok a) (drop j s)
+-- t is left of the text s: something stands in front of it
+abbrev pub Left : List ℕ → List ℕ → Type 0
+Left t s = (u : List ℕ) × (s ≡ u ++ t)
 
--- from the place i the parser fails, at the place j
-pub record Fails {A : Type 0} (p : Parser A) (s : List ℕ) (i j : ℕ) : Type 0 where
-  pub fits : j ≤ length s
-  pub fails : p (drop i s) ≡ res bad (drop j s)
+-- of the text s the parser reads a, and leaves t
+pub record Reads {A : Type 0} (p : Parser A) (s : List ℕ) (a : A) (t : List ℕ) : Type 0 where
+  pub left : Left t s
+  pub reads : p s ≡ res (ok a) t
 
--- from the place i the parser reads something, up to the place j
-abbrev pub Passes : {A : Type 0} → Parser A → List ℕ → ℕ → ℕ → Type 0
-Passes {A} p s i j = (a : A) × Reads p s i a j
+-- in the text s the parser fails where t is left
+pub record Fails {A : Type 0} (p : Parser A) (s t : List ℕ) : Type 0 where
+  pub left : Left t s
+  pub fails : p s ≡ res bad t
 
--- from the place i the parser reads up to the place in Ok, or fails at the place in Err
-abbrev pub Goes : {A : Type 0} → Parser A → List ℕ → ℕ → Result ℕ ℕ → Type 0
-Goes p s i (Ok j) = Passes p s i j
-Goes p s i (Err j) = Fails p s i j
+-- of the text s the parser reads something, and leaves t
+abbrev pub Passes : {A : Type 0} → Parser A → List ℕ → List ℕ → Type 0
+Passes {A} p s t = (a : A) × Reads p s a t
+
+-- of the text s the parser leaves what stands in Ok, or fails where the mismatch is
+abbrev pub Goes : {A : Type 0} → Parser A → List ℕ → Result (Bor (List ℕ)) Mismatch → Type 0
+Goes p s (Ok t) = Passes p s t.now
+Goes p s (Err e) = Fails p s e.rest.now

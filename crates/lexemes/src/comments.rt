@@ -1,35 +1,35 @@
 //! What follows the two bytes that open a comment.
 
-ghost use Rattle.std.specs.Prelude.{ℕ, ◌≤◌, length};
 ghost use Rattle.grammar.specs.Classes.{InLine};
 ghost use Rattle.grammar.specs.Reader.{block_p, chars_p};
 ghost use Rattle.lexemes.specs.Scan.{Goes};
 
-use crate::bytes::next_is;
+use crate::bytes::behind_byte;
 use crate::classes::ByteClass;
-use crate::utf8::{char_end, chars_end};
+use crate::mismatch::Mismatch;
+use crate::utf8::{behind_char, behind_chars};
 
-/// The place of the CR, the LF or the end that ends a line comment.
-pub fn line_end(text: &[u8], from: usize) -> Result<usize, usize>
-    requires { from ≤ length text.now }
-    ensures { Goes (chars_p InLine) text.now from result }
+/// What is left from the CR, the LF or the end on that ends a line comment.
+pub fn behind_line(text: &[u8]) -> Result<&[u8], Mismatch<'_>>
+    ensures { Goes (chars_p InLine) text.now result }
 {
-    chars_end(text, from, ByteClass::InLine)
+    behind_chars(text, ByteClass::InLine)
 }
 
-/// The place behind the first `*/`.
-pub fn block_end(text: &[u8], from: usize) -> Result<usize, usize>
-    requires { from ≤ length text.now }
-    ensures { Goes block_p text.now from result }
+/// What is left behind the first `*/`.
+// by one byte after another: where two slice patterns begin alike, the proof does not see the bytes that they found
+pub fn behind_block(text: &[u8]) -> Result<&[u8], Mismatch<'_>>
+    ensures { Goes block_p text.now result }
 {
-    let mut i = from;
+    let mut rest = text;
     loop {
-        if !next_is(text, i, ByteClass::Only(b'*')) {
-            i = char_end(text, i, ByteClass::InBlock)?;
-        } else if next_is(text, i + 1, ByteClass::Only(b'/')) {
-            return Ok(i + 2);
-        } else {
-            i += 1;
+        let Ok(tail) = behind_byte(rest, ByteClass::Only(b'*')) else {
+            rest = behind_char(rest, ByteClass::InBlock)?;
+            continue;
+        };
+        match behind_byte(tail, ByteClass::Only(b'/')) {
+            Ok(end) => return Ok(end),
+            Err(_) => rest = tail,
         }
     }
 }

@@ -1,89 +1,75 @@
 //! Numbers, by RFC 8259, section 6.
 
-ghost use Rattle.std.specs.Prelude.{ℕ, ◌≤◌, length};
 ghost use Rattle.grammar.specs.Reader.{digits_p, exp_p, frac_p, int_p, minus_p, number_p, power_p};
 ghost use Rattle.lexemes.specs.Scan.{Goes, Passes};
 
-use crate::bytes::{byte_end, next_is, run_end};
+use crate::bytes::{behind_byte, behind_run};
 use crate::classes::ByteClass;
+use crate::mismatch::Mismatch;
 
 // [ minus ]
-fn minus_end(text: &[u8], from: usize) -> usize
-    requires { from ≤ length text.now }
-    ensures { Passes minus_p text.now from result }
+fn behind_minus(text: &[u8]) -> &[u8]
+    ensures { Passes minus_p text.now result.now }
 {
-    if next_is(text, from, ByteClass::Only(b'-')) {
-        from + 1
-    } else {
-        from
-    }
+    behind_byte(text, ByteClass::Only(b'-')).unwrap_or(text)
 }
 
 // 1*DIGIT
-fn digits_end(text: &[u8], from: usize) -> Result<usize, usize>
-    requires { from ≤ length text.now }
-    ensures { Goes digits_p text.now from result }
+fn behind_digits(text: &[u8]) -> Result<&[u8], Mismatch<'_>>
+    ensures { Goes digits_p text.now result }
 {
-    let i = byte_end(text, from, ByteClass::Digit)?;
-    Ok(run_end(text, i, ByteClass::Digit))
+    let digits = behind_byte(text, ByteClass::Digit)?;
+    Ok(behind_run(digits, ByteClass::Digit))
 }
 
 // int = zero / ( digit1-9 *DIGIT )
-fn int_end(text: &[u8], from: usize) -> Result<usize, usize>
-    requires { from ≤ length text.now }
-    ensures { Goes int_p text.now from result }
+fn behind_int(text: &[u8]) -> Result<&[u8], Mismatch<'_>>
+    ensures { Goes int_p text.now result }
 {
-    if next_is(text, from, ByteClass::Only(b'0')) {
-        return Ok(from + 1);
+    if let Ok(rest) = behind_byte(text, ByteClass::Only(b'0')) {
+        return Ok(rest);
     }
-    let i = byte_end(text, from, ByteClass::Range(b'1', b'9'))?;
-    Ok(run_end(text, i, ByteClass::Digit))
+    let digits = behind_byte(text, ByteClass::Range(b'1', b'9'))?;
+    Ok(behind_run(digits, ByteClass::Digit))
 }
 
-// frac = decimal-point 1*DIGIT
-fn frac_end(text: &[u8], from: usize) -> Result<usize, usize>
-    requires { from ≤ length text.now }
-    ensures { Goes frac_p text.now from result }
+// [ frac ], where frac = decimal-point 1*DIGIT
+fn behind_frac(text: &[u8]) -> Result<&[u8], Mismatch<'_>>
+    ensures { Goes frac_p text.now result }
 {
-    if next_is(text, from, ByteClass::Only(b'.')) {
-        digits_end(text, from + 1)
-    } else {
-        Ok(from)
+    match behind_byte(text, ByteClass::Only(b'.')) {
+        Ok(digits) => behind_digits(digits),
+        Err(_) => Ok(text),
     }
 }
 
 // [ minus / plus ] 1*DIGIT
-fn power_end(text: &[u8], from: usize) -> Result<usize, usize>
-    requires { from ≤ length text.now }
-    ensures { Goes power_p text.now from result }
+fn behind_power(text: &[u8]) -> Result<&[u8], Mismatch<'_>>
+    ensures { Goes power_p text.now result }
 {
-    if next_is(text, from, ByteClass::Sign) {
-        digits_end(text, from + 1)
-    } else {
-        digits_end(text, from)
+    match behind_byte(text, ByteClass::Sign) {
+        Ok(digits) => behind_digits(digits),
+        Err(_) => behind_digits(text),
     }
 }
 
-// exp = e [ minus / plus ] 1*DIGIT
-fn exp_end(text: &[u8], from: usize) -> Result<usize, usize>
-    requires { from ≤ length text.now }
-    ensures { Goes exp_p text.now from result }
+// [ exp ], where exp = e [ minus / plus ] 1*DIGIT
+fn behind_exp(text: &[u8]) -> Result<&[u8], Mismatch<'_>>
+    ensures { Goes exp_p text.now result }
 {
-    if next_is(text, from, ByteClass::Exponent) {
-        power_end(text, from + 1)
-    } else {
-        Ok(from)
+    match behind_byte(text, ByteClass::Exponent) {
+        Ok(power) => behind_power(power),
+        Err(_) => Ok(text),
     }
 }
 
-/// The place behind a number.
+/// What is left behind a number.
 // number = [ minus ] int [ frac ] [ exp ]
-pub fn number_end(text: &[u8], from: usize) -> Result<usize, usize>
-    requires { from ≤ length text.now }
-    ensures { Goes number_p text.now from result }
+pub fn behind_number(text: &[u8]) -> Result<&[u8], Mismatch<'_>>
+    ensures { Goes number_p text.now result }
 {
-    let int = minus_end(text, from);
-    let frac = int_end(text, int)?;
-    let exp = frac_end(text, frac)?;
-    exp_end(text, exp)
+    let int = behind_minus(text);
+    let frac = behind_int(int)?;
+    let exp = behind_frac(frac)?;
+    behind_exp(exp)
 }

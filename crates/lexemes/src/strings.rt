@@ -1,81 +1,73 @@
 //! Strings, by RFC 8259, section 7.
 
-ghost use Rattle.std.specs.Prelude.{◌≡◌, ℕ, ◌≤◌, length, drop};
+ghost use Rattle.std.specs.Prelude.{◌≡◌};
 ghost use Rattle.grammar.specs.Parse.{starts};
 ghost use Rattle.grammar.specs.Reader.{StringFirst, escape_p, many_p, string_char_p, string_p, unicode_p};
 ghost use Rattle.lexemes.specs.Scan.{Goes};
 
-use crate::bytes::{byte_end, next_is};
+use crate::bytes::{behind_byte, next_is};
 use crate::classes::ByteClass;
-use crate::utf8::{char_end, next_is_char};
+use crate::mismatch::Mismatch;
+use crate::utf8::{behind_char, next_is_char};
 
 // %x75 4HEXDIG
-fn unicode_end(text: &[u8], from: usize) -> Result<usize, usize>
-    requires { from ≤ length text.now }
-    ensures { Goes unicode_p text.now from result }
+fn behind_unicode(text: &[u8]) -> Result<&[u8], Mismatch<'_>>
+    ensures { Goes unicode_p text.now result }
 {
-    let first = byte_end(text, from, ByteClass::Only(b'u'))?;
-    let second = byte_end(text, first, ByteClass::Hex)?;
-    let third = byte_end(text, second, ByteClass::Hex)?;
-    let fourth = byte_end(text, third, ByteClass::Hex)?;
-    byte_end(text, fourth, ByteClass::Hex)
+    let first = behind_byte(text, ByteClass::Only(b'u'))?;
+    let second = behind_byte(first, ByteClass::Hex)?;
+    let third = behind_byte(second, ByteClass::Hex)?;
+    let fourth = behind_byte(third, ByteClass::Hex)?;
+    behind_byte(fourth, ByteClass::Hex)
 }
 
 // escape ( %x22 / %x5C / %x2F / %x62 / %x66 / %x6E / %x72 / %x74 / %x75 4HEXDIG )
-fn escape_end(text: &[u8], from: usize) -> Result<usize, usize>
-    requires { from ≤ length text.now }
-    ensures { Goes escape_p text.now from result }
+fn behind_escape(text: &[u8]) -> Result<&[u8], Mismatch<'_>>
+    ensures { Goes escape_p text.now result }
 {
-    let i = byte_end(text, from, ByteClass::Only(b'\\'))?;
-    if next_is(text, i, ByteClass::Only(b'u')) {
-        unicode_end(text, i)
+    let escaped = behind_byte(text, ByteClass::Only(b'\\'))?;
+    if next_is(escaped, ByteClass::Only(b'u')) {
+        behind_unicode(escaped)
     } else {
-        byte_end(text, i, ByteClass::Escaped)
+        behind_byte(escaped, ByteClass::Escaped)
     }
 }
 
 // char = unescaped / escape ( .. )
-fn string_char_end(text: &[u8], from: usize) -> Result<usize, usize>
-    requires { from ≤ length text.now }
-    ensures { Goes string_char_p text.now from result }
+fn behind_string_char(text: &[u8]) -> Result<&[u8], Mismatch<'_>>
+    ensures { Goes string_char_p text.now result }
 {
-    if next_is(text, from, ByteClass::Only(b'\\')) {
-        escape_end(text, from)
+    if next_is(text, ByteClass::Only(b'\\')) {
+        behind_escape(text)
     } else {
-        char_end(text, from, ByteClass::Plain)
+        behind_char(text, ByteClass::Plain)
     }
 }
 
 /// Whether a character of a string comes next.
-fn next_is_string_char(text: &[u8], at: usize) -> bool
-    ensures { result ≡ starts StringFirst (drop at text.now) }
+fn next_is_string_char(text: &[u8]) -> bool
+    ensures { result ≡ starts StringFirst text.now }
 {
-    if next_is(text, at, ByteClass::Only(b'\\')) {
-        true
-    } else {
-        next_is_char(text, at, ByteClass::Plain)
-    }
+    next_is(text, ByteClass::Only(b'\\')) || next_is_char(text, ByteClass::Plain)
 }
 
 // *char
-fn string_chars_end(text: &[u8], from: usize) -> Result<usize, usize>
-    requires { from ≤ length text.now }
-    ensures { Goes (many_p StringFirst string_char_p) text.now from result }
+fn behind_string_chars(text: &[u8]) -> Result<&[u8], Mismatch<'_>>
+    ensures { Goes (many_p StringFirst string_char_p) text.now result }
 {
-    let mut i = from;
-    while next_is_string_char(text, i) {
-        i = string_char_end(text, i)?;
+    let mut rest = text;
+    while next_is_string_char(rest) {
+        rest = behind_string_char(rest)?;
     }
-    Ok(i)
+    Ok(rest)
 }
 
-/// The place behind a string.
+/// What is left behind a string.
 // string = quotation-mark *char quotation-mark
-pub fn string_end(text: &[u8], from: usize) -> Result<usize, usize>
-    requires { from ≤ length text.now }
-    ensures { Goes string_p text.now from result }
+pub fn behind_string(text: &[u8]) -> Result<&[u8], Mismatch<'_>>
+    ensures { Goes string_p text.now result }
 {
-    let i = byte_end(text, from, ByteClass::Only(b'"'))?;
-    let j = string_chars_end(text, i)?;
-    byte_end(text, j, ByteClass::Only(b'"'))
+    let chars = behind_byte(text, ByteClass::Only(b'"'))?;
+    let quote = behind_string_chars(chars)?;
+    behind_byte(quote, ByteClass::Only(b'"'))
 }

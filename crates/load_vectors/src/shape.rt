@@ -1,52 +1,65 @@
 //! The shape of a tree in one line, as the scripts write it.
 
+ghost use Rattle.std.specs.Prelude.{◌≡◌, ◌++◌, IfOk, IsOkAnd, codes, string_bytes};
 ghost use Rattle.load_vectors.specs.Shapes.{Any, any, anyways};
 
+use line_break::NewlineKind;
 use std::alloc::{AllocError, Global};
-use text::sink::{Container, LeafKind, NewlineKind, Sink};
+use text::sink::{Container, LeafKind, Sink, TokenKind};
 
-/// Letters and brackets, one for each node; `full` where memory did not suffice.
+/// Letters and brackets, one for each node, or that memory did not suffice for them.
 #[derive(Drop)]
 pub struct Shape {
-    pub letters: String,
-    pub heap: Global,
-    pub full: bool,
+    letters: Result<String, AllocError>,
 }
 
 impl Shape {
     /// The root, open.
-    pub fn new(heap: Global) -> Result<Shape, AllocError> {
-        let letters = String::from_str(heap, "R(")?;
-        Ok(Shape {
-            letters,
-            heap,
-            full: false,
-        })
+    pub fn new(heap: Global) -> Shape
+        ensures { IfOk result.letters (λ letters. string_bytes letters ≡ codes "R(") }
+    {
+        Shape {
+            letters: String::from_str(heap, "R("),
+        }
     }
 
-    fn add(&mut self, letters: &str) {
-        if self.letters.push_str(letters).is_err() {
-            self.full = true;
+    /// The whole shape, the root closed.
+    pub fn finish(self) -> Result<String, AllocError>
+        ensures { IfOk result (λ whole. IsOkAnd self.letters (λ inner. string_bytes whole ≡ string_bytes inner ++ codes ")")) }
+    {
+        let mut letters = self.letters?;
+        letters.push_str(")")?;
+        Ok(letters)
+    }
+
+    fn add(&mut self, letters: &str)
+        ensures { IfOk self.new.letters (λ after. IsOkAnd self.old.letters (λ before. string_bytes after ≡ string_bytes before ++ letters.now)) }
+    {
+        if let Ok(so_far) = &mut self.letters {
+            if let Err(error) = so_far.push_str(letters) {
+                self.letters = Err(error);
+            }
         }
     }
 
     // a Whitespace is followed by its length
     fn add_space(&mut self, len: usize) {
-        match format!(in self.heap; "w{len}") {
-            Ok(letters) => self.add(letters.as_str()),
-            Err(_) => self.full = true,
+        if let Ok(so_far) = &mut self.letters {
+            if let Err(error) = write!(so_far, "w{len}") {
+                self.letters = Err(error);
+            }
         }
     }
 }
 
-fn token_letter(byte: u8) -> &'static str {
-    match byte {
-        b'[' => "[",
-        b']' => "]",
-        b'{' => "{",
-        b'}' => "}",
-        b',' => ",",
-        _ => ":",
+fn token_letter(token: TokenKind) -> &'static str {
+    match token {
+        TokenKind::OpenArray => "[",
+        TokenKind::CloseArray => "]",
+        TokenKind::OpenObject => "{",
+        TokenKind::CloseObject => "}",
+        TokenKind::Comma => ",",
+        TokenKind::Colon => ":",
     }
 }
 
@@ -54,7 +67,7 @@ fn newline_letter(kind: NewlineKind) -> &'static str {
     match kind {
         NewlineKind::LineFeed => "l",
         NewlineKind::CarriageReturn => "r",
-        NewlineKind::Both => "c",
+        NewlineKind::CarriageReturnLineFeed => "c",
     }
 }
 
@@ -70,13 +83,11 @@ impl Sink for Shape {
             LeafKind::Null => self.add("z"),
             LeafKind::Boolean(_) => self.add("b"),
             LeafKind::Number => self.add("n"),
-            LeafKind::String => self.add("s"),
-            LeafKind::Name => self.add("s"),
-            LeafKind::Token(token) => self.add(token_letter(token.byte())),
+            LeafKind::String | LeafKind::Name => self.add("s"),
+            LeafKind::Token(token) => self.add(token_letter(token)),
             LeafKind::Whitespace => self.add_space(bytes.len()),
             LeafKind::Newline(kind) => self.add(newline_letter(kind)),
-            LeafKind::LineComment => self.add("k"),
-            LeafKind::BlockComment => self.add("k"),
+            LeafKind::LineComment | LeafKind::BlockComment => self.add("k"),
         }
     }
 

@@ -8,10 +8,9 @@ use Rattle.grammar.specs.Pieces.{Pieces, nodes, stored}
 use Rattle.grammar.specs.Reader.{text_p}
 use Rattle.grammar.specs.Answer as answer
 use Rattle.grammar.specs.Answer.{Answer, Read, whole, read}
-use Rattle.text.specs.declared.fault.Fault.{Fault}
 use Rattle.text.specs.declared.fault.Fault.TheVariants.{Bad, Deep}
 use Rattle.text.specs.Events.{Event, events}
-use Rattle.text.specs.Reports.{Makes}
+use Rattle.text.specs.Reports.{Rest, Makes}
 use Rattle.checking.specs.declared.extent.Extent.{Extent}
 use Rattle.checking.specs.Checked.{extent_of, judged, checked}
 use Rattle.model.specs.State.{Refused, Given, unless, loaded_state, load, loading}
@@ -105,15 +104,15 @@ module _ {S : Type 0} (after : S → List Event → S → Type 0) (t : List ℕ)
   read_ok (res bad u) e = let z : ◌≡◌ {A = ℕ} 0 1 = cc in absurd (omega arith)
   read_ok (res deep u) e = let z : ◌≡◌ {A = ℕ} 0 1 = cc in absurd (omega arith)
 
-  pub all_told : read 64 t ≡ Read a → (b c : S) (r : Result ℕ Fault) → Makes after (text_p 64) t 0 b r c → after b (events a) c
-  all_told e b c (Ok j) h =
+  pub all_told : read 64 t ≡ Read a → (b c : S) (r : Rest) → Makes after (text_p 64) t b r c → after b (events a) c
+  all_told e b c (Ok u) h =
       let x = read_ok (text_p 64 t) e in
       let y = h.1.reads in
       let i : h.0 ≡ a = cc in
       subst (λ z. after b (events z) c) i h.2
-  all_told e b c (Err (Bad j)) h =
+  all_told e b c (Err (Bad u)) h =
       let x = read_ok (text_p 64 t) e in
-      let y = h.1 in
+      let y = h.fails in
       let z : ◌≡◌ {A = ℕ} 0 1 = cc in
       absurd (omega arith)
   all_told e b c (Err Deep) h =

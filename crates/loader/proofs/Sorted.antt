@@ -6,7 +6,8 @@ use Rattle.grammar.specs.Pieces as of
 use Rattle.grammar.specs.Pieces.{Leaf, Box, Token, Break, Pieces, kept, nodes, stored}
 use Rattle.forest.specs.Forest.{end, node, map}
 use Rattle.model.specs.Nodes.{Sort, within, single, Own, numbered}
-use Rattle.tree.specs.Sorts.{sort_for, own_for, token_for, break_for, Inside}
+use Rattle.line_break.specs.Breaks.{break_for}
+use Rattle.tree.specs.Sorts.{sort_for, own_for, token_for, Inside}
 use Rattle.loader.specs.Kinds.{break_kind, leaf_kind, box_kind}
 use Rattle.loader.proofs.Grown.{laid}
 

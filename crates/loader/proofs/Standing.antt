@@ -1,6 +1,5 @@
 -- What a step does to a builder: the node where it stands is there, and what it has built is as the step says. Assumes nothing.
-use Rattle.std.proofs.Common.{◌≡◌, ℕ, ◌+◌, ◌<◌, Bool, true, false, cond, List, [], ◌∷◌, ◌++◌, length, get_or, take, Some, None, Option, sym, refl, ap, ◌∙◌, subst, ⊎_elim, append_assoc, arith}
-use Rattle.std.proofs.lemmas.List.{take_more}
+use Rattle.std.proofs.Common.{◌≡◌, ℕ, ◌+◌, ◌<◌, Bool, true, false, cond, List, [], ◌∷◌, length, Some, None, Option, sym, refl, ap, ◌∙◌, subst, ⊎_elim, arith}
 use Rattle.forest.specs.Forest.{one, count}
 use Rattle.forest.specs.Asks.{parent_in}
 use Rattle.forest.specs.Edits.{ins_last}
@@ -56,8 +55,3 @@ module _ (s b : Site) (fs : List ℕ) (k l : Kind) (h : k ≡ l) where
   -- entered, where it found a place
   pub enter_told : (o : Option ℕ) → b ≡ added s fs k [] → o ≡ place_for s fs [] → turned b o ≡ turned (added s fs l []) (place_for s fs [])
   enter_told o e g = ap (λ y. turned y o) (put_told [] [] e refl) ∙ ap (λ y. turned (added s fs l []) y) g
-
--- one byte more
-pub pushed_more : (xs zs ws bs : List ℕ) (i : ℕ) → i < length bs → zs ≡ xs ++ take i bs → ws ≡ zs ++ get_or bs i 0 ∷ [] → ws ≡ xs ++ take (i + 1) bs
-pushed_more xs zs ws bs i h e f =
-    f ∙ (ap (λ y. y ++ get_or bs i 0 ∷ []) e ∙ (append_assoc xs (take i bs) (get_or bs i 0 ∷ []) ∙ ap (λ y. xs ++ y) (sym (take_more bs i 0 h))))

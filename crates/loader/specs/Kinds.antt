@@ -4,8 +4,8 @@ use Rattle.grammar.specs.Pieces as of
 use Rattle.grammar.specs.Pieces.{Leaf, Box, Break, token_byte}
 use Rattle.table.specs.declared.kind.Kind.{Kind}
 use Rattle.table.specs.declared.kind.Kind.TheVariants.{Array, Object, Property, Null, Boolean, Number, String, Name, Token, Whitespace, Newline, LineComment, BlockComment}
-use Rattle.table.specs.declared.kind.NewlineKind.{NewlineKind}
-use Rattle.table.specs.declared.kind.NewlineKind.TheVariants.{LineFeed, CarriageReturn, CarriageReturnLineFeed}
+use Rattle.line_break.specs.declared.NewlineKind.{NewlineKind}
+use Rattle.line_break.specs.declared.NewlineKind.TheVariants.{LineFeed, CarriageReturn, CarriageReturnLineFeed}
 
 -- the name of a line break
 abbrev pub break_kind : Break → NewlineKind

@@ -11,7 +11,8 @@ use std::alloc::Global;
 use table::{Kind, Own, Place, Table};
 use tree::Tree;
 
-/// Puts the bytes behind those that are stored.
+/// Puts the bytes behind those that are stored. Each is pushed, since no `extend` of the library promises both that it does not
+/// fail where there is room and that the room stays.
 fn push_all(store: &mut Vec<u8>, bytes: &[u8])
     requires { vec_len store.old + length bytes.now ≤ vec_capacity store.old }
     ensures items { store.new.items ≡ store.old.items ++ bytes.now }
@@ -37,14 +38,8 @@ impl Builder {
             start: 0,
             len: 0,
         };
-        let table = match Table::new(heap, records, root) {
-            Ok(table) => table,
-            Err(_) => return Err(LoadError::NoMemory),
-        };
-        let store = match Vec::with_capacity(heap, room) {
-            Ok(store) => store,
-            Err(_) => return Err(LoadError::NoMemory),
-        };
+        let table = Table::new(heap, records, root)?;
+        let store = Vec::with_capacity(heap, room)?;
         Ok(Builder {
             table,
             store,
@@ -55,6 +50,7 @@ impl Builder {
 
     /// Puts a new node behind all children of the node where the builder stands, and says at which place; nothing, where no place is
     /// free or the bytes find no room.
+    #[tactic(auto, using(table::proofs::Seen::tree_size, table::proofs::Seen::records_few))]
     pub fn add(&mut self, kind: Kind, bytes: &[u8]) -> Option<Place>
         ensures site { site_of self.new ≡ added (site_of self.old) (free_of self.old.table) kind bytes.now }
         ensures place { result ≡ place_for (site_of self.old) (free_of self.old.table) bytes.now }

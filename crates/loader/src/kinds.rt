@@ -1,23 +1,11 @@
 //! What the reader's leaves and containers become in the table.
 
 ghost use Rattle.std.specs.Prelude.{◌≡◌, ℕ, List};
-ghost use Rattle.grammar.specs.Pieces.{kept};
-ghost use Rattle.text.specs.Events.{box_for, break_for, leaf_for};
-ghost use Rattle.loader.specs.Kinds.{box_kind, break_kind, leaf_kind};
+ghost use Rattle.text.specs.Events.{box_for, leaf_for};
+ghost use Rattle.loader.specs.Kinds.{box_kind, leaf_kind};
 
-use table::{Kind, NewlineKind};
-use text::sink::{Container, LeafKind, NewlineKind as Newline};
-
-/// The line break in the table.
-fn newline_of(newline: Newline) -> NewlineKind
-    ensures { result ≡ break_kind (break_for newline) }
-{
-    match newline {
-        Newline::LineFeed => NewlineKind::LineFeed,
-        Newline::CarriageReturn => NewlineKind::CarriageReturn,
-        Newline::Both => NewlineKind::CarriageReturnLineFeed,
-    }
-}
+use table::Kind;
+use text::sink::{Container, LeafKind};
 
 /// The kind of a leaf's node.
 pub fn kind_of(leaf: LeafKind) -> Kind
@@ -31,7 +19,7 @@ pub fn kind_of(leaf: LeafKind) -> Kind
         LeafKind::Name => Kind::Name,
         LeafKind::Token(token) => Kind::Token(token.byte() as char),
         LeafKind::Whitespace => Kind::Whitespace,
-        LeafKind::Newline(newline) => Kind::Newline(newline_of(newline)),
+        LeafKind::Newline(newline) => Kind::Newline(newline),
         LeafKind::LineComment => Kind::LineComment,
         LeafKind::BlockComment => Kind::BlockComment,
     }
@@ -45,23 +33,5 @@ pub fn container_kind(container: Container) -> Kind
         Container::Array => Kind::Array,
         Container::Object => Kind::Object,
         Container::Property => Kind::Property,
-    }
-}
-
-/// The bytes of a leaf that are stored.
-pub fn kept_of(leaf: LeafKind, bytes: &[u8]) -> &[u8]
-    ensures { result.now ≡ kept (leaf_for leaf bytes.now) }
-{
-    match leaf {
-        LeafKind::Null => &[],
-        LeafKind::Boolean(_) => &[],
-        LeafKind::Number => bytes,
-        LeafKind::String => bytes,
-        LeafKind::Name => bytes,
-        LeafKind::Token(_) => &[],
-        LeafKind::Whitespace => bytes,
-        LeafKind::Newline(_) => &[],
-        LeafKind::LineComment => bytes,
-        LeafKind::BlockComment => bytes,
     }
 }

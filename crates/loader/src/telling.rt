@@ -1,7 +1,7 @@
 ghost use Rattle.loader.specs.Sites.{Built, onward, still};
 
 use crate::builder::Builder;
-use crate::kinds::{container_kind, kept_of, kind_of};
+use crate::kinds::{container_kind, kind_of};
 use text::sink::{Container, LeafKind, Sink};
 
 /// What the reader reports becomes nodes: leaves and containers behind the children of the node where the builder stands.
@@ -13,7 +13,7 @@ impl Sink for Builder {
     ghost joined = { onward };
 
     fn put(&mut self, kind: LeafKind, bytes: &[u8]) {
-        let _ = self.add(kind_of(kind), kept_of(kind, bytes));
+        let _ = self.add(kind_of(kind), kind.kept(bytes));
     }
 
     fn enter(&mut self, container: Container) {

@@ -6,51 +6,46 @@ ghost use Rattle.tree.specs.Sorts.{handle_for};
 ghost use Rattle.document.specs.Documents.{state_of, told, optional};
 ghost use Rattle.neighbours.specs.Pairs.{pair_for};
 
-use crate::walks::{comma_from, handle_of, nth, value_from};
 use document::Document;
 use refusal::Refusal;
 use table::Handle;
+use tree::Class;
 
 /// The value of the root or of a property.
 pub fn value(document: &Document, handle: Handle) -> Result<Option<Handle>, Refusal>
     ensures { told (optional handle_for) result ≡ value_answer (state_of document.now) (handle_for handle) }
 {
-    let tree = document.loaded()?;
-    let place = tree.find(handle)?;
-    if !tree.has_one_value(place) {
+    let node = document.find(handle)?;
+    if !node.has_one_value() {
         return Err(Refusal::NotHere);
     }
-    Ok(value_from(tree, tree.first(place)))
+    let value = node.children().find(|child| child.is_value());
+    Ok(value.map(|value| value.handle()))
 }
 
 /// The parent and the index among its children; the root has none.
 pub fn parent_info(document: &Document, handle: Handle) -> Result<Option<(Handle, usize)>, Refusal>
     ensures { told (optional pair_for) result ≡ parent_answer (state_of document.now) (handle_for handle) }
 {
-    let tree = document.loaded()?;
-    let place = tree.find(handle)?;
-    match tree.parent(place) {
-        Some(parent) => Ok(Some((tree.handle(parent), tree.child_index(place)))),
-        None => Ok(None),
-    }
+    let node = document.find(handle)?;
+    let index = node.child_index();
+    Ok(node.parent().map(|parent| (parent.handle(), index)))
 }
 
 /// The child one index before.
 pub fn previous_sibling(document: &Document, handle: Handle) -> Result<Option<Handle>, Refusal>
     ensures { told (optional handle_for) result ≡ previous_answer (state_of document.now) (handle_for handle) }
 {
-    let tree = document.loaded()?;
-    let place = tree.find(handle)?;
-    Ok(handle_of(tree, tree.previous(place)))
+    let node = document.find(handle)?;
+    Ok(node.previous().map(|sibling| sibling.handle()))
 }
 
 /// The child one index behind.
 pub fn next_sibling(document: &Document, handle: Handle) -> Result<Option<Handle>, Refusal>
     ensures { told (optional handle_for) result ≡ next_answer (state_of document.now) (handle_for handle) }
 {
-    let tree = document.loaded()?;
-    let place = tree.find(handle)?;
-    Ok(handle_of(tree, tree.next(place)))
+    let node = document.find(handle)?;
+    Ok(node.next().map(|sibling| sibling.handle()))
 }
 
 /// The child of an index, of a container.
@@ -61,19 +56,19 @@ pub fn child_at_index(
 ) -> Result<Option<Handle>, Refusal>
     ensures { told (optional handle_for) result ≡ child_answer (state_of document.now) (handle_for handle) index }
 {
-    let tree = document.loaded()?;
-    let place = tree.find(handle)?;
-    if !tree.is_container(place) {
+    let node = document.find(handle)?;
+    if !node.is_container() {
         return Err(Refusal::NotHere);
     }
-    Ok(nth(tree, tree.first(place), index))
+    Ok(node.children().nth(index).map(|child| child.handle()))
 }
 
 /// The comma behind a node, with only trivia between.
 pub fn trailing_comma(document: &Document, handle: Handle) -> Result<Option<Handle>, Refusal>
     ensures { told (optional handle_for) result ≡ comma_answer (state_of document.now) (handle_for handle) }
 {
-    let tree = document.loaded()?;
-    let place = tree.find(handle)?;
-    Ok(comma_from(tree, tree.next(place)))
+    let node = document.find(handle)?;
+    let behind = node.following().find(|sibling| !sibling.is_gap());
+    let comma = behind.filter(|sibling| sibling.class() == Class::Comma);
+    Ok(comma.map(|comma| comma.handle()))
 }

@@ -2,7 +2,6 @@
 #![tactic(auto)]
 
 mod asks;
-mod walks;
 
 pub use asks::{
     child_at_index, next_sibling, parent_info, previous_sibling, trailing_comma, value,

@@ -2,6 +2,6 @@ mod Routes
 mod Ordinals
 mod Grounds
 mod Climbs
+mod Landings
 mod Titles
 mod Told
-pub mod Arrays

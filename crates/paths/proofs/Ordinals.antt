@@ -3,7 +3,7 @@ use Rattle.std.proofs.Common.{◌≡◌, ℕ, ◌+◌, ◌≤◌, false, cond, e
 use Rattle.std.proofs.lemmas.Bool.{cond_both}
 use Rattle.grammar.specs.Layout.{levels}
 use Rattle.grammar.specs.Pieces.{layout}
-use Rattle.forest.specs.Forest.{end, count, size, Distinct}
+use Rattle.forest.specs.Forest.{end, count, Distinct}
 use Rattle.model.specs.Nodes.{root, Nodes, value, class, pieces, parts}
 use Rattle.model.specs.Asks.{Frame, Spot, tree, spot_in, spot_at, sort_of, spot_handle, is_value, tally, from_root, path_to, path}
 use Rattle.model.specs.State.{levels_of}
@@ -13,7 +13,7 @@ use Rattle.model.proofs.Stand.{stand}
 use Rattle.model.proofs.Lying.{way_off}
 use Rattle.model.proofs.Lone.{lone, first_only}
 use Rattle.model.proofs.Whereabouts.{meaning_levels}
-use Rattle.paths.proofs.Routes.{some_same, frame, spot, Route, route, route_ups, before_size, tally_size, stem, Wayed, wayed, wayless, around_levels, ups_length}
+use Rattle.paths.proofs.Routes.{some_same, frame, spot, Route, route, route_ups, stem, Wayed, wayed, wayless, around_levels, ups_length}
 
 -- the ordinals of a node and its ancestors up to the root's value, which is left out; the outermost first
 abbrev pub ordinals : Frame → List Frame → List ℕ
@@ -67,15 +67,6 @@ module _ (k : ℕ) (ks : Nodes) (s : Spot) (d : Distinct (tree ks)) (e : spot_at
       elim (rooted k ks s e) [
         | inl y ↦ ap path_to (way_off (spot_handle s) ks (root_alone y))
         | inr r ↦ ap path_to (wayless (top_frame ∷ []) end ks s r once v)
-      ]
-
-  -- the siblings before a node are no more than there are nodes
-  pub tally_bound : tally is_value s.here.before ≤ size (tree ks)
-  tally_bound =
-      let t = tally_size is_value s.here.before in
-      elim (rooted k ks s e) [
-        | inl y ↦ (let z : size s.here.before ≡ 0 = ap (λ z. size z.here.before) (sym y) in omega arith)
-        | inr r ↦ omega (arith, before_size (top_frame ∷ []) end ks s r)
       ]
 
   module _ (doc : Document ks) where

@@ -1,10 +1,10 @@
 -- How a spot is reached from the first of its ancestors' siblings, and what that says of it. Assumes nothing.
-use Rattle.std.proofs.Common.{◌≡◌, ℕ, suc, ◌+◌, ◌*◌, ◌<◌, ◌≤◌, max, Bool, true, false, cond, ◌&&◌, eqb, ltb, List, [], ◌∷◌, ◌++◌, length, Some, None, sym, refl, ap, ◌∙◌, subst, true≢false, append_assoc, arith}
+use Rattle.std.proofs.Common.{◌≡◌, ℕ, suc, ◌+◌, ◌*◌, ◌<◌, ◌≤◌, max, true, false, cond, ◌&&◌, eqb, ltb, List, [], ◌∷◌, ◌++◌, length, Some, None, sym, refl, ap, ◌∙◌, subst, true≢false, append_assoc, arith}
 use mathlib.Core.Bool.{false≢true}
 use Rattle.std.proofs.lemmas.Bool.{cond_both, eqb-true}
 use Rattle.grammar.specs.Layout.{raised}
 use Rattle.grammar.specs.Pieces.{Box, array, object, property}
-use Rattle.forest.specs.Forest.{end, node, count, size}
+use Rattle.forest.specs.Forest.{end, node, count}
 use Rattle.forest.proofs.Frames.{one_eq}
 use Rattle.model.specs.Nodes.{Handle, handle, within, Own, Nodes, Class, gap, mark, value, class, pieces, parts, parts_at, label_of}
 use Rattle.model.specs.Asks.{Frame, Spot, spot_in, sort_of, spot_handle, is_value, bracketed, tally, at, inside, behind, or_else, way_to}
@@ -61,19 +61,6 @@ route_ups _ _ _ _ (on us bs p i ks ts s r) = route_ups us (node p i ks bs) ts s 
 -- a node with something below it is a container
 box_above : (us : List Frame) (bs : Nodes) (p : ℕ) (i : Own) (ks ts : Nodes) (s : Spot) → Route (frame bs p i ts ∷ us) end ks s → Holds i.sort ks → (b : Box) × (i.sort ≡ within b)
 box_above us bs p i ks ts s r h = holder i.sort s.here.place ks h (route_stands (frame bs p i ts ∷ us) end ks s r)
-
--- the siblings before a node are no more than stand there
-pub before_size : (us : List Frame) (bs ts : Nodes) (s : Spot) → Route us bs ts s → size s.here.before ≤ size bs + size ts
-before_size _ _ _ _ (stop us bs p i ks ts) = omega arith
-before_size _ _ _ _ (down us bs p i ks ts s r) = omega (arith, before_size (frame bs p i ts ∷ us) end ks s r)
-before_size _ _ _ _ (on us bs p i ks ts s r) = omega (arith, before_size us (node p i ks bs) ts s r)
-
--- no more siblings of a class than nodes
-pub tally_size : (f : Class → Bool) (ts : Nodes) → tally f ts ≤ size ts
-tally_size f end = omega arith
-tally_size f (node p i ks ts) =
-    let h = tally_size f ts in
-    cond_both (f (class i.sort)) 1 0 (λ y. y + tally f ts ≤ 1 + (size ks + size ts)) (λ z. omega arith) (λ z. omega arith)
 
 -- THE ORDINALS ON THE WAY
 

@@ -1,25 +1,25 @@
 -- A property's name: the first of its children, between its quotes. Assumes nothing.
-use Rattle.std.proofs.Common.{◌≡◌, ℕ, suc, ◌-◌, ◌<◌, Bool, true, false, ◌&&◌, List, [], ◌∷◌, length, take, drop, Some, None, Decides, sym, refl, ap, ◌∙◌, subst, inl, inr, arith}
+use Rattle.std.proofs.Common.{◌≡◌, ℕ, suc, ◌-◌, Bool, true, false, cond, ◌&&◌, eqb, List, [], ◌∷◌, length, take, drop, Some, None, Option, sym, refl, ap, ◌∙◌, subst, inl, inr, arith}
 use mathlib.Core.HLevel.{⊥_prop}
 use mathlib.Core.Logic.{∥∥₁_elim}
 use mathlib.Core.List.{is_set}
 use mathlib.Core.Bool.{false≢true}
 use native.Mathlib.Nat.{ℕ_set}
-use Rattle.std.proofs.lemmas.Slice.Eq.{IsBytesEq, compares_Decides}
-use Rattle.std.proofs.lemmas.Bool.{cond-true}
-use Rattle.grammar.specs.Pieces.{Token, open_array, close_array, open_object, close_object, comma, colon, null, boolean, number, string, name, token, whitespace, newline, comment, property, front, inner, name_of}
+use Rattle.std.specs.Cmp.Lexicographic.{pointwise}
+use Rattle.std.specs.List.{find as first_that}
+use Rattle.std.specs.Option.{option_map, MatchOption}
+use Rattle.grammar.specs.Pieces.{Token, open_array, close_array, open_object, close_object, comma, colon, null, boolean, number, string, name, token, whitespace, newline, comment, array, object, property, front, inner, name_of}
 use Rattle.forest.specs.Forest.{end, node}
 use Rattle.model.specs.Nodes.{Sort, root, within, single, Own, Nodes, handle, piece, pieces, class}
 use Rattle.model.specs.Asks.{Frame, Spot, spot_at, sort_of, spot_handle, is_property, spelt, same_bytes, find}
 use Rattle.model.specs.Fits.{of, role, takes, run, step, here, start, Ends, Fits, Holds, Whole, Document}
 use Rattle.model.proofs.Prints.{no_dead}
-use Rattle.tree.specs.declared.tree.Tree.{Tree}
+use Rattle.tree.specs.declared.node.Node.{Node}
 use Rattle.tree.specs.Trees.{kids}
-use Rattle.tree.specs.Steps.{spot_of, Stands, rest}
-use Rattle.tree.proofs.Spots.{spot_stands}
-use Rattle.tree.proofs.Seen as of_Tree
+use Rattle.tree.specs.Steps.{spot, rest, spots_on}
 use Rattle.paths.proofs.Routes.{frame, Route, stop, down, on}
 use Rattle.paths.proofs.Ordinals.{rooted}
+use Rattle.paths.proofs.Grounds.{at_place}
 
 -- BETWEEN THE QUOTES
 
@@ -37,12 +37,6 @@ inner_part [] = refl
 inner_part (b ∷ t) =
     let e : (length (b ∷ t) - 1) - 1 ≡ length t - 1 = omega arith in
     ap (λ n. take n t) e ∙ front_part t
-
--- less than two bytes have none between them
-pub inner_short : (t : List ℕ) → length t < 2 → [] ≡ inner t
-inner_short [] h = refl
-inner_short (b ∷ []) h = refl
-inner_short (b ∷ c ∷ t) h = absurd (omega arith)
 
 -- THE NAME OF A PROPERTY
 
@@ -85,41 +79,51 @@ title_name p i us ts f = go i.sort f.ends f.taken.0
     go (single (newline k)) e t = absurd (no_dead (of property) ts e)
     go (single (comment x)) e t = absurd (no_dead (of property) ts e)
 
-module _ (t : Tree) (k : ℕ) (c : Stands k (kids t)) (p : within property ≡ (spot_of k (kids t)).here.own.sort) where
-  -- a property's name is what its first child spells between the quotes
-  pub title_is : (x : ℕ) → rest (Some x) (kids t) ≡ (spot_of k (kids t)).kids → name_of (pieces (spot_of k (kids t)).kids) ≡ inner (spelt (spot_of x (kids t)).here.own.sort)
-  title_is x e =
-      sym (ap (λ y. name_of (pieces y)) e)
-      ∙ ∥∥₁_elim t.ok (is_set ℕ_set _ _)
-      (λ w. title_name x (spot_of x (kids t)).here.own (spot_of x (kids t)).kids (spot_of x (kids t)).here.after
-      (subst (Fits (of property)) (sym e) (property_fits k (kids t) (spot_of k (kids t)) w.document (spot_stands (kids t) (of_Tree.distinct t) k c) p)))
+module _ (n : Node) where
+  -- what the tree says of a property's children
+  fits_property : {A : Type 0} → IsProp A → within property ≡ sort_of (spot n) → (Fits (of property) (spot n).kids → A) → A
+  fits_property a p f = ∥∥₁_elim n.tree.now.ok a (λ w. f (property_fits n.place (kids n.tree.now) (spot n) w.document (at_place n) p))
 
-  -- and it has one
-  pub titled : rest None (kids t) ≡ (spot_of k (kids t)).kids → ⊥
-  titled e =
-      ∥∥₁_elim t.ok ⊥_prop
-      (λ w. (subst (Fits (of property)) (sym e) (property_fits k (kids t) (spot_of k (kids t)) w.document (spot_stands (kids t) (of_Tree.distinct t) k c) p)).ends)
+  -- a property's name is what its first child spells between the quotes
+  pub title_is : (m : Node) → within property ≡ sort_of (spot n) → rest (Some m) ≡ (spot n).kids → name_of (pieces (spot n).kids) ≡ inner (spelt (sort_of (spot m)))
+  title_is m p e =
+      sym (ap (λ y. name_of (pieces y)) e)
+      ∙ fits_property (is_set ℕ_set _ _) p (λ f. title_name (spot m).here.place (spot m).here.own (spot m).kids (spot m).here.after (subst (Fits (of property)) (sym e) f))
+
+  -- and it has one: a node without children has no name
+  pub untitled : (b : Bool) → rest None ≡ (spot n).kids → false ≡ (is_property (sort_of (spot n)) && b)
+  untitled b e = go (sort_of (spot n)) refl
+    where
+      go : (s : Sort) → sort_of (spot n) ≡ s → false ≡ (is_property s && b)
+      go root z = refl
+      go (within array) z = refl
+      go (within object) z = refl
+      go (within property) z = absurd (fits_property ⊥_prop (sym z) (λ f. (subst (Fits (of property)) (sym e) f).ends))
+      go (single x) z = refl
 
 -- ITS NAME COMPARED
 
--- two answers to one question are the same
-same_answer : {P : Type 0} (a b : Bool) → Decides a P → Decides b P → a ≡ b
-same_answer true true f g = refl
-same_answer true false f g = absurd (false≢true (g.1 (f.0 refl)))
-same_answer false true f g = absurd (false≢true (f.1 (g.0 refl)))
-same_answer false false f g = refl
+-- slices are compared as the bytes of two lists are
+same_as : (xs ys : List ℕ) → pointwise eqb xs ys ≡ same_bytes xs ys
+same_as [] [] = refl
+same_as [] (y ∷ ys) = refl
+same_as (x ∷ xs) [] = refl
+same_as (x ∷ xs) (y ∷ ys) = ap (λ b. eqb x y && b) (same_as xs ys)
 
--- the bytes of two lists are compared
-bytes_compared : IsBytesEq same_bytes
-bytes_compared = record { empty = refl; shorter = λ y ys. refl; longer = λ x xs. refl; heads = λ x y xs ys. refl }
+-- whether a property has this name, of what its first child says
+pub named_by : (n : Node) (o : Option Node) (b : Bool) (u : List ℕ) (Post : Node → Type 0) → within property ≡ sort_of (spot n) → rest o ≡ (spot n).kids → MatchOption o (b ≡ false) Post → ((m : Node) → Post m → b ≡ pointwise eqb (inner (spelt (sort_of (spot m)))) u)
+    → b ≡ (is_property (sort_of (spot n)) && same_bytes (name_of (pieces (spot n).kids)) u)
+named_by n None b u Post p e m h = m ∙ untitled n _ e
+named_by n (Some t) b u Post p e m h =
+    h t m ∙ (same_as _ u ∙ (ap (λ y. same_bytes y u) (sym (title_is n t p e)) ∙ ap (λ s. is_property s && same_bytes (name_of (pieces (spot n).kids)) u) p))
 
--- whether a property's name is this one
-pub named_so : (r : Bool) (s : Sort) (xs ys zs : List ℕ) → within property ≡ s → xs ≡ zs → Decides r (zs ≡ ys) → r ≡ (is_property s && same_bytes xs ys)
-named_so r s xs ys zs p e d =
-    same_answer r (same_bytes zs ys) d (compares_Decides same_bytes bytes_compared zs ys) ∙ (λ t. is_property (p t) && same_bytes (sym e t) ys)
-
--- the first of these siblings has the name
-pub find_here : (u : List ℕ) (k : ℕ) (ks : Nodes) → (spot_of k ks).here.place ≡ k → true ≡ (is_property (spot_of k ks).here.own.sort && same_bytes (name_of (pieces (spot_of k ks).kids)) u) → Some (spot_handle (spot_of k ks)) ≡ find u (rest (Some k) ks)
-find_here u k ks p e =
-    ap (λ y. Some (handle y (spot_of k ks).here.own)) p
-    ∙ sym (cond-true (is_property (spot_of k ks).here.own.sort && same_bytes (name_of (pieces (spot_of k ks).kids)) u) (Some (handle k (spot_of k ks).here.own)) (find u (spot_of k ks).here.after) (sym e))
+-- the first of these siblings that has the name
+pub find_on : (u : List ℕ) (us : List Frame) (bs ts : Nodes)
+    → option_map spot_handle (first_that (λ s. is_property (sort_of s) && same_bytes (name_of (pieces s.kids)) u) (spots_on us bs ts)) ≡ find u ts
+find_on u us bs end = refl
+find_on u us bs (node p i ks ts) = go (is_property i.sort && same_bytes (name_of (pieces ks)) u) _ (find_on u us (node p i ks bs) ts)
+  where
+    go : (b : Bool) (o : Option Spot) → option_map spot_handle o ≡ find u ts
+        → option_map spot_handle (cond b (Some (record { here = record { before = bs; place = p; own = i; after = ts }; kids = ks; ups = us })) o) ≡ cond b (Some (handle p i)) (find u ts)
+    go true o e = refl
+    go false o e = e

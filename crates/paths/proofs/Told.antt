@@ -1,33 +1,61 @@
--- What the questions answer, of what is found in the tree. Assumes nothing.
-use Rattle.std.proofs.Common.{◌≡◌, ℕ, ◌≤◌, false, cond, ltb, List, [], ◌++◌, length, drop, IsErrAnd, Some, None, Err, Option, Result, sym, refl, ap, ◌∙◌}
+-- What the questions answer, of the node that was found. Assumes nothing.
+use Rattle.std.proofs.Common.{◌≡◌, ℕ, ◌≤◌, ltb, List, [], ◌++◌, length, drop, IsErrAnd, Some, None, Err, Option, Result, sym, refl, ap, ◌∙◌, inl, inr, arith}
+use Rattle.std.specs.Option.{ok_or}
 use Rattle.std.proofs.lemmas.Result.{err_from_is_err_and}
-use Rattle.std.proofs.lemmas.Bool.{cond-true, cond-false, le-ltb}
-use Rattle.grammar.specs.Pieces as of
+use Rattle.std.proofs.lemmas.Bool.{cond-false, cases_lt, le-ltb}
+use Rattle.forest.specs.Forest.{end, count}
 use Rattle.refusal.specs.declared.Refusal.{Refusal}
 use Rattle.refusal.specs.declared.Refusal.TheVariants.{BadMemory, Gone, NotHere}
-use Rattle.table.specs.declared.kind.Kind.{Kind}
-use Rattle.table.specs.declared.kind.Kind.TheVariants.{Root, Array, Object, Property, Null, Boolean, Number, String, Name, Token, Whitespace, Newline, LineComment, BlockComment}
-use Rattle.model.specs.Nodes.{Handle, Sort, parts, within}
-use Rattle.model.specs.Asks.{named, spot_handle, sort_of, is_object, or_given, at_path, path, find}
-use Rattle.model.specs.State.{State, Refused, Given, present, asking, path_answer, at_answer, find_answer}
+use Rattle.model.specs.Nodes.{Handle, parts}
+use Rattle.model.specs.Asks.{Spot, tree, spot_at, spot_handle, or_given, path}
+use Rattle.model.specs.State.{Given, Refused, and_then, present, asking, unloaded, path_answer}
 use Rattle.model.proofs.Removes.{some_none}
-use Rattle.model.proofs.Lying.{named_spot}
+use Rattle.model.proofs.Spots.{spot_found}
+use Rattle.model.proofs.Lying.{named_spot, spot_place}
 use Rattle.tree.specs.declared.tree.Tree.{Tree}
-use Rattle.tree.specs.Sorts.{sort_for}
-use Rattle.tree.specs.Trees.{kids}
-use Rattle.tree.specs.Steps.{spot_of, Stands}
-use Rattle.tree.proofs.Seen.{place_is}
-use Rattle.document.specs.declared.document.Document.{Document}
-use Rattle.document.specs.Documents.{state_of, told}
-use Rattle.document.proofs.Asked.{state_is, plainly, here, gone}
+use Rattle.tree.specs.declared.node.Node.{Node}
+use Rattle.tree.specs.Places.{spot_of}
+use Rattle.tree.specs.Trees.{kids, state}
+use Rattle.tree.specs.Steps.{spot}
+use Rattle.tree.proofs.Spots.{plug, no_spot, spot_stands}
+use Rattle.tree.proofs.Seen.{distinct, plug_is}
+use Rattle.document.specs.Documents.{state_in, told}
+use Rattle.document.proofs.Asked.{is_loaded, here}
 use Rattle.paths.specs.Ways.{path_of, measured, counted, written}
+use Rattle.paths.proofs.Routes.{some_same}
 
--- a handle that names a node is that node's
-pub named_handle : (t : Tree) (h : Handle) (k : ℕ) → Stands k (kids t) → named h (kids t) ≡ Some (spot_of k (kids t)) → k ≡ h.place → spot_handle (spot_of k (kids t)) ≡ h
-named_handle t h k c e p =
-    let m = (named_spot h (kids t) (spot_of k (kids t)) e).1 in
-    let q : (spot_of k (kids t)).here.place ≡ h.place = place_is t k c ∙ p in
-    λ i. record { place = q i; number = m i }
+-- an absent answer, refused so
+pub absent : {A : Type 0} (o : Option A) (x e : Refusal) → Err x ≡ ok_or o e → (o ≡ None) × (x ≡ e)
+absent None x e z = (refl, cc)
+absent (Some a) x e z = let n : ◌≡◌ {A = ℕ} 0 1 = cc in absurd (omega arith)
+
+-- the exit of a refusal
+pub refused_exit : {A B : Type 0} (g : A → B) (r : Result A Refusal) (x y : Refusal) → IsErrAnd r (λ z. z ≡ x) → x ≡ y → told g r ≡ Refused y
+refused_exit g r x y b w = (let p = err_from_is_err_and r b in ap (told g) (p.1 ∙ ap Err (p.2 ∙ w)))
+
+-- what answers a spot was found
+got : (o : Option Spot) (s : Spot) → Given s ≡ and_then (present Gone o) Given → o ≡ Some s
+got None s e = let z : ◌≡◌ {A = ℕ} 0 1 = cc in absurd (omega arith)
+got (Some t) s e = cc
+
+-- a node that a tree names is of that tree
+named_kids : (t : Tree) (k : ℕ) (n : Node) → spot_at k (kids t) ≡ Some (spot n) → kids n.tree.now ≡ kids t
+named_kids t k n e =
+    elim (cases_lt 0 (count k (tree (kids t)))) [
+      | inl c ↦
+          let m : spot_of k (kids t) ≡ spot n = some_same _ _ (sym (spot_stands (kids t) (distinct t) k c) ∙ e) in
+          let z : tree (kids n.tree.now) ≡ tree (kids t) = sym (plug_is n.tree.now n.place n.stands) ∙ (ap plug (sym m) ∙ plug_is t k c) in
+          cc
+      | inr c ↦ absurd (some_none (spot n) (sym e ∙ no_spot k [] end (tree (kids t)) (omega arith)))
+    ]
+
+-- the node that a document found is a node of its tree, and the one that the handle names
+found_is : (o : Option Tree) (h : Handle) (n : Node) → Given (spot n) ≡ asking (state_in o) h Given → (kids n.tree.now ≡ (state_in o).kids) × (spot_handle (spot n) ≡ h)
+found_is None h n e = let z : ◌≡◌ {A = ℕ} 0 1 = cc in absurd (omega arith)
+found_is (Some t) h n e =
+    let m = named_spot h (kids t) (spot n) (got _ (spot n) (e ∙ cond-false (unloaded (state t)) _ _ (is_loaded t))) in
+    let p : (spot n).here.place ≡ h.place = spot_place h.place (kids t) (spot n) (spot_found h.place (kids t) (spot n) m.0) in
+    (named_kids t h.place n m.0, λ i. record { place = p i; number = m.1 i })
 
 -- what is measured, as it is answered and written
 some_told : (o : Option (List ℕ)) (n : ℕ) (xs : List ℕ) → Some n ≡ measured o → (Given n ≡ counted (present NotHere o)) × (or_given o [] ++ drop n xs ≡ written (present NotHere o) xs)
@@ -39,73 +67,23 @@ none_told : (o : Option (List ℕ)) (xs : List ℕ) → None ≡ measured o → 
 none_told None xs e = (refl, refl)
 none_told (Some p) xs e = absurd (some_none (length p) (sym e))
 
-module _ (d : Document) (t : Tree) (e : d.tree ≡ Some t) (h : Handle) where
-  -- the answer on the path of a node
-  path_here : (n : ℕ) → 128 ≤ n → (k : ℕ) → Stands k (kids t) → named h (kids t) ≡ Some (spot_of k (kids t)) → k ≡ h.place → path_answer (state_of d) h n ≡ present NotHere (path_of k (kids t))
-  path_here n l k c z p =
-      cond-false (ltb n 128) (Refused BadMemory) (asking (state_of d) h (λ s. present NotHere (path h (parts (state_of d).kids)))) (le-ltb n 128 l)
-      ∙ (here d t e h (λ s. present NotHere (path h (parts (state_of d).kids))) k z
-      ∙ (ap (λ (y : State). present NotHere (path h (parts y.kids))) (state_is d t e) ∙ ap (λ y. present NotHere (path y (parts (kids t)))) (sym (named_handle t h k c z p))))
+module _ (o : Option Tree) (h : Handle) (k : ℕ) (l : 128 ≤ k) where
+  -- with room for a path, the document is asked
+  pub roomy : path_answer (state_in o) h k ≡ asking (state_in o) h (λ s. present NotHere (path h (parts (state_in o).kids)))
+  roomy = cond-false (ltb k 128) (Refused BadMemory) (asking (state_in o) h (λ s. present NotHere (path h (parts (state_in o).kids)))) (le-ltb k 128 l)
 
-  -- a path that was measured and written
-  pub path_told : (xs ys : List ℕ) → 128 ≤ length xs → (k : ℕ) → Stands k (kids t) → named h (kids t) ≡ Some (spot_of k (kids t)) → k ≡ h.place → (n : ℕ) → Some n ≡ measured (path_of k (kids t)) → ys ≡ or_given (path_of k (kids t)) [] ++ drop n xs
-      → (Given n ≡ counted (path_answer (state_of d) h (length xs))) × (ys ≡ written (path_answer (state_of d) h (length xs)) xs)
-  path_told xs ys l k c z p n m w =
-      let a = sym (path_here (length xs) l k c z p) in
-      let b = some_told (path_of k (kids t)) n xs m in
-      (b.0 ∙ ap counted a, w ∙ (b.1 ∙ ap (λ y. written y xs) a))
+  module _ (n : Node) (e : Given (spot n) ≡ asking (state_in o) h Given) where
+    -- the answer on the path of a node
+    path_here : present NotHere (path_of n) ≡ path_answer (state_in o) h k
+    path_here =
+        let m = found_is o h n e in
+        (λ i. present NotHere (path (m.1 i) (parts (m.0 i))))
+        ∙ (sym (here (state_in o) h (λ s. present NotHere (path h (parts (state_in o).kids))) (spot n) e) ∙ sym roomy)
 
-  -- a node without a path
-  pub path_untold : (xs : List ℕ) → 128 ≤ length xs → (k : ℕ) → Stands k (kids t) → named h (kids t) ≡ Some (spot_of k (kids t)) → k ≡ h.place → None ≡ measured (path_of k (kids t))
-      → (Refused NotHere ≡ counted (path_answer (state_of d) h (length xs))) × (xs ≡ written (path_answer (state_of d) h (length xs)) xs)
-  path_untold xs l k c z p m =
-      let a = sym (path_here (length xs) l k c z p) in
-      let b = none_told (path_of k (kids t)) xs m in
-      (b.0 ∙ ap counted a, b.1 ∙ ap (λ y. written y xs) a)
+    -- a path that was measured and written
+    pub path_told : (xs ys : List ℕ) (j : ℕ) → Some j ≡ measured (path_of n) → ys ≡ or_given (path_of n) [] ++ drop j xs → (Given j ≡ counted (path_answer (state_in o) h k)) × (ys ≡ written (path_answer (state_in o) h k) xs)
+    path_told xs ys j m w = (let b = some_told (path_of n) j xs m in (b.0 ∙ ap counted path_here, w ∙ (b.1 ∙ ap (λ y. written y xs) path_here)))
 
-  -- and that of a handle that is Gone
-  pub path_gone : (n : ℕ) → 128 ≤ n → named h (kids t) ≡ None → path_answer (state_of d) h n ≡ Refused Gone
-  path_gone n l z =
-      cond-false (ltb n 128) (Refused BadMemory) (asking (state_of d) h (λ s. present NotHere (path h (parts (state_of d).kids)))) (le-ltb n 128 l)
-      ∙ gone d t e h (λ s. present NotHere (path h (parts (state_of d).kids))) z
-
-  -- the answer on an object's properties
-  pub find_object : (u : List ℕ) (k : ℕ) → named h (kids t) ≡ Some (spot_of k (kids t)) → within of.object ≡ (spot_of k (kids t)).here.own.sort → (r : Option Handle) → r ≡ find u (spot_of k (kids t)).kids → Given r ≡ find_answer (state_of d) h u
-  find_object u k z o r x =
-      ap Given x
-      ∙ sym (here d t e h (λ s. cond (is_object (sort_of s)) (Given (find u s.kids)) (Refused NotHere)) k z
-      ∙ cond-true (is_object (spot_of k (kids t)).here.own.sort) (Given (find u (spot_of k (kids t)).kids)) (Refused NotHere) (sym (ap is_object o)))
-
-  -- and on what is no object
-  pub find_other : (u : List ℕ) (k : ℕ) → named h (kids t) ≡ Some (spot_of k (kids t)) → is_object (spot_of k (kids t)).here.own.sort ≡ false → find_answer (state_of d) h u ≡ Refused NotHere
-  find_other u k z o =
-      here d t e h (λ s. cond (is_object (sort_of s)) (Given (find u s.kids)) (Refused NotHere)) k z
-      ∙ cond-false (is_object (spot_of k (kids t)).here.own.sort) (Given (find u (spot_of k (kids t)).kids)) (Refused NotHere) o
-
--- the answer on a path
-pub at_answer_lem : (d : Document) (t : Tree) → d.tree ≡ Some t → (p : List ℕ) → at_answer (state_of d) p ≡ present NotHere (at_path (parts (kids t)) p)
-at_answer_lem d t e p = plainly d t e (λ s. present NotHere (at_path (parts s.kids) p))
-
--- the exit of a refusal
-pub refused_exit : {A B : Type 0} (g : A → B) (r : Result A Refusal) (x y : Refusal) → IsErrAnd r (λ z. z ≡ x) → x ≡ y → told g r ≡ Refused y
-refused_exit g r x y b w = (let p = err_from_is_err_and r b in ap (told g) (p.1 ∙ ap Err (p.2 ∙ w)))
-
--- what is of another kind is no object
-pub no_object : (k : Kind) (t : List ℕ) (s : Sort) → sort_for k t ≡ s → (k ≡ Object → ⊥) → is_object s ≡ false
-no_object k t s e n = sym (ap is_object e) ∙ go k n
-  where
-    go : (k : Kind) → (k ≡ Object → ⊥) → is_object (sort_for k t) ≡ false
-    go Root n = refl
-    go Array n = refl
-    go Object n = absurd (n refl)
-    go Property n = refl
-    go Null n = refl
-    go (Boolean b) n = refl
-    go Number n = refl
-    go String n = refl
-    go Name n = refl
-    go (Token c) n = refl
-    go Whitespace n = refl
-    go (Newline b) n = refl
-    go LineComment n = refl
-    go BlockComment n = refl
+    -- a node without a path
+    pub path_untold : (xs : List ℕ) → None ≡ measured (path_of n) → (Refused NotHere ≡ counted (path_answer (state_in o) h k)) × (xs ≡ written (path_answer (state_in o) h k) xs)
+    path_untold xs m = (let b = none_told (path_of n) xs m in (b.0 ∙ ap counted path_here, b.1 ∙ ap (λ y. written y xs) path_here))

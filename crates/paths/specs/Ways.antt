@@ -1,13 +1,15 @@
 -- What the steps on the way to a node, and down from it, find. Assumes nothing.
 use Rattle.std.specs.Prelude.{ℕ, ◌≤◌, List, [], ◌∷◌, ◌++◌, length, drop, Some, None, Option}
-use Rattle.model.specs.Nodes.{Handle, Nodes, parts}
+use Rattle.model.specs.Nodes.{Handle, parts}
 use Rattle.model.specs.Asks.{spot_handle, at, path}
 use Rattle.model.specs.State.{Outcome, Given, Refused}
-use Rattle.tree.specs.Steps.{spot_of}
+use Rattle.tree.specs.declared.node.Node.{Node}
+use Rattle.tree.specs.Trees.{kids}
+use Rattle.tree.specs.Steps.{spot}
 
--- the path of the node at the place k, of the root's children
-abbrev pub path_of : ℕ → Nodes → Option (List ℕ)
-path_of k ks = path (spot_handle (spot_of k ks)) (parts ks)
+-- a node's path in its document
+abbrev pub path_of : Node → Option (List ℕ)
+path_of n = path (spot_handle (spot n)) (parts (kids n.tree.now))
 
 -- how many ordinals a path has
 abbrev pub measured : Option (List ℕ) → Option ℕ
@@ -20,10 +22,10 @@ Few None = Unit {0}
 Few (Some n) = n ≤ 128
 
 -- what stands at the path q below the node that was found, the node itself at none
-abbrev pub landed : Option ℕ → Nodes → List ℕ → Option Handle
-landed None ks q = None
-landed (Some k) ks [] = Some (spot_handle (spot_of k ks))
-landed (Some k) ks (j ∷ q) = at (parts (spot_of k ks).kids) j q
+abbrev pub landed : Option Node → List ℕ → Option Handle
+landed None q = None
+landed (Some n) [] = Some (spot_handle (spot n))
+landed (Some n) (j ∷ q) = at (parts (spot n).kids) j q
 
 -- how many ordinals a path that is answered has
 abbrev pub counted : Outcome (List ℕ) → Outcome ℕ

@@ -6,9 +6,9 @@ ghost use Rattle.document.specs.Documents.{optional, state_of, told};
 ghost use Rattle.tree.specs.Sorts.{handle_for};
 ghost use Rattle.paths.specs.Ways.{counted, written};
 
-use crate::downward::at_in;
-use crate::members::find_in;
-use crate::upward::{in_array, ordinal, path_length, write_path};
+use crate::downward::node_at;
+use crate::members::is_named;
+use crate::upward::{ordinal, path_length, write_path};
 use document::Document;
 use refusal::Refusal;
 use table::{Handle, Kind};
@@ -26,26 +26,19 @@ pub fn path(document: &Document, handle: Handle, list: &mut [usize]) -> Result<u
     if list.len() < PATH_PLACES {
         return Err(Refusal::BadMemory);
     }
-    let tree = document.loaded()?;
-    let place = tree.find(handle)?;
-    match path_length(tree, place) {
-        Some(steps) => {
-            write_path(tree, place, steps, list);
-            Ok(steps)
-        }
-        None => Err(Refusal::NotHere),
-    }
+    let node = document.find(handle)?;
+    let steps = path_length(node).ok_or(Refusal::NotHere)?;
+    write_path(node, steps, list);
+    Ok(steps)
 }
 
 /// The handle of the node at the path. A document that was not loaded is BadMemory; where no node has the path, that is NotHere.
 pub fn at(document: &Document, path: &[usize]) -> Result<Handle, Refusal>
     ensures { told handle_for result ≡ at_answer (state_of document.now) path.now }
 {
-    let tree = document.loaded()?;
-    match at_in(tree, path) {
-        Some(handle) => Ok(handle),
-        None => Err(Refusal::NotHere),
-    }
+    let root = document.loaded()?.root();
+    let node = node_at(root, path).ok_or(Refusal::NotHere)?;
+    Ok(node.handle())
 }
 
 /// The first property of the object that the handle names whose name has these bytes between its quotes. A document that was not loaded is BadMemory; a
@@ -53,25 +46,22 @@ pub fn at(document: &Document, path: &[usize]) -> Result<Handle, Refusal>
 pub fn find(document: &Document, handle: Handle, name: &[u8]) -> Result<Option<Handle>, Refusal>
     ensures { told (optional handle_for) result ≡ find_answer (state_of document.now) (handle_for handle) name.now }
 {
-    let tree = document.loaded()?;
-    let place = tree.find(handle)?;
-    match tree.kind(place) {
-        Kind::Object => Ok(find_in(tree, place, name)),
-        _ => Err(Refusal::NotHere),
+    let node = document.find(handle)?;
+    if !matches!(node.kind(), Kind::Object) {
+        return Err(Refusal::NotHere);
     }
+    let property = node.children().find(|child| is_named(*child, name));
+    Ok(property.map(|property| property.handle()))
 }
 
 /// The ordinal of an element in its array; every other node has none. A document that was not loaded is BadMemory; a handle that names no node is Gone.
 pub fn element_index(document: &Document, handle: Handle) -> Result<Option<usize>, Refusal>
     ensures { told (λ (o : Option ℕ). o) result ≡ element_answer (state_of document.now) (handle_for handle) }
 {
-    let tree = document.loaded()?;
-    let place = tree.find(handle)?;
-    if !in_array(tree, place) {
+    let node = document.find(handle)?;
+    let in_array = node.parent().is_some_and(|parent| parent.is_array());
+    if !in_array || !node.is_value() {
         return Ok(None);
     }
-    if !tree.is_value(place) {
-        return Ok(None);
-    }
-    Ok(Some(ordinal(tree, place)))
+    Ok(Some(ordinal(node)))
 }

@@ -36,6 +36,11 @@ over_over out n xs ys h =
     ∙ (ap (λ z. (A ++ xs) ++ (ys ++ z)) d
     ∙ (append_assoc A xs (ys ++ drop (n + length (xs ++ ys)) out) ∙ ap (λ z. A ++ z) (sym (append_assoc xs ys (drop (n + length (xs ++ ys)) out)))))
 
+-- a node's own bytes O, and what follows it N
+pub turn_own : (out out1 O N T : List ℕ) (a a1 : ℕ) → T ≡ O ++ N → out1 ≡ over out a O → a1 ≡ a + length O → a + length T ≤ length out → over out1 a1 N ≡ over out a T
+turn_own out out1 O N T a a1 t e l h =
+    ap (λ z. over z a1 N) e ∙ (ap (λ z. over (over out a O) z N) l ∙ (over_over out a O N (omega (arith, ap length t, length-append O N)) ∙ ap (over out a) (sym t)))
+
 -- a node's own bytes O, what is inside it D, and what follows it N
 pub turn_again : (out out1 out2 O D N T : List ℕ) (a a1 a2 : ℕ) → T ≡ O ++ (D ++ N) → out1 ≡ over out a O → a1 ≡ a + length O → out2 ≡ over out1 a1 D → a2 ≡ a1 + length D
     → a + length T ≤ length out → over out2 a2 N ≡ over out a T

@@ -7,7 +7,8 @@ ghost use Rattle.document.specs.Documents.{state_of};
 ghost use Rattle.printing.specs.Buffers.{Fills};
 
 use crate::buffers::put;
-use crate::walks::{size_from, write_from};
+use crate::sizes::size_below;
+use crate::writes::write_below;
 use document::Document;
 use refusal::Refusal;
 use table::Handle;
@@ -16,25 +17,23 @@ use table::Handle;
 pub fn print(document: &Document, out: &mut [u8]) -> Result<usize, Refusal>
     ensures { Fills (print_answer (state_of document.now) (length out.old)) out.old out.new result }
 {
-    let tree = document.loaded()?;
-    let first = tree.first(0);
-    let size = size_from(tree, first);
+    let root = document.loaded()?.root();
+    let size = size_below(root);
     if out.len() < size {
         return Err(Refusal::Short(size));
     }
-    Ok(write_from(tree, first, out, 0))
+    Ok(write_below(root, out, 0))
 }
 
 /// Writes the bytes of a Number, String, Whitespace or Comment at the start of the buffer, and says how many.
 pub fn text(document: &Document, handle: Handle, out: &mut [u8]) -> Result<usize, Refusal>
     ensures { Fills (text_answer (state_of document.now) (handle_for handle) (length out.old)) out.old out.new result }
 {
-    let tree = document.loaded()?;
-    let place = tree.find(handle)?;
-    if !tree.is_stored(place) {
+    let node = document.find(handle)?;
+    if !node.is_stored() {
         return Err(Refusal::NotHere);
     }
-    let bytes = tree.spelling(place);
+    let bytes = node.spelling();
     if out.len() < bytes.len() {
         return Err(Refusal::Short(bytes.len()));
     }

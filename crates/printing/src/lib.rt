@@ -3,6 +3,7 @@
 
 mod asks;
 pub mod buffers;
-pub mod walks;
+pub mod sizes;
+pub mod writes;
 
 pub use asks::{print, text};

@@ -2,12 +2,10 @@
 use Rattle.std.proofs.Common.{◌≡◌, ℕ, suc, ◌+◌, ◌-◌, ◌<◌, ◌≤◌, List, [], ◌∷◌, ◌++◌, length, get_or, take, drop, set, sym, refl, ap, ◌∙◌, subst, append_assoc, add-one, arith, length-append, length-take-le}
 use Rattle.std.proofs.lemmas.List.{take_more, set_split, take_at, drop_at, drop-drop, length-drop}
 use Rattle.model.specs.Promise.{meant, Run, over, goes, after_call}
-use Rattle.document.specs.declared.document.Document.{Document}
-use Rattle.document.specs.Documents.{state_of}
 use Rattle.replay.specs.declared.call.Call.{Call}
 use Rattle.replay.specs.declared.call.Call.TheVariants.{Print, Root, Edits, Value, Kind, Path, At, Find, ParentInfo, PreviousSibling, NextSibling, ChildAtIndex, ElementIndex, TrailingComma, Text, NewlineKind, UsesTrailingCommas, Clear}
-use Rattle.replay.specs.declared.call.Answer.{Answer}
-use Rattle.replay.specs.Carried.{World, world_of, answer_to, carried, carried_all, answers_to, call_for, calls_for}
+use Rattle.replay.specs.declared.answer.Answer.{Answer}
+use Rattle.replay.specs.Carried.{World, answer_to, carried, carried_all, answers_to, call_for, calls_for}
 
 -- first some calls, then others
 carried-++ : (w : World) (xs ys : List Call) → carried_all w (xs ++ ys) ≡ carried_all (carried_all w xs) ys
@@ -47,10 +45,6 @@ module _ (w : World) (cs : List Call) (i : ℕ) (l : i < length cs) (d : Call) (
       ap (λ z. set z i a) e
       ∙ (put_next A old i a n (omega arith)
       ∙ ap (λ z. z ++ drop (i + 1) old) (ap (λ z. A ++ z ∷ []) (f ∙ ap (λ z. answer_to z (get_or cs i d)) inv) ∙ (sym (answers-++ w (take i cs) (get_or cs i d ∷ [])) ∙ ap (answers_to w) (sym (take_more cs i d l)))))
-
--- a queue of the same length makes the same world
-pub requeued : (d : Document) (bs os p q : List ℕ) → length p ≡ length q → world_of d bs os p ≡ world_of d bs os q
-requeued d bs os p q e = ap (λ n. record { state = state_of d; bytes = bs; ordinals = os; queue = n }) e
 
 -- a call leads from state to state as the definitions of runs have it
 step_state : (w : World) (c : Call) → (carried w c).state ≡ after_call meant w.state (call_for w c)

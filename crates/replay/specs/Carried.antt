@@ -17,8 +17,8 @@ use Rattle.document.specs.Documents.{optional, state_of}
 use Rattle.paths.specs.Ways.{written}
 use Rattle.replay.specs.declared.call.Call.{Call}
 use Rattle.replay.specs.declared.call.Call.TheVariants.{Print, Root, Edits, Value, Kind, Path, At, Find, ParentInfo, PreviousSibling, NextSibling, ChildAtIndex, ElementIndex, TrailingComma, Text, NewlineKind as LineBreak, UsesTrailingCommas, Clear}
-use Rattle.replay.specs.declared.call.Answer.{Answer}
-use Rattle.replay.specs.declared.call.Answer.TheVariants as answer
+use Rattle.replay.specs.declared.answer.Answer.{Answer}
+use Rattle.replay.specs.declared.answer.Answer.TheVariants as answer
 use Rattle.replay.specs.Answers.{noted}
 
 -- The document's state, what the two buffers hold, and how many places the queue has.

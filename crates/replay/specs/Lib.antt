@@ -1,3 +1,4 @@
 pub mod Answers
 pub mod Carried
+pub mod Buffers
 pub mod Replayed

@@ -1,8 +1,10 @@
 ghost use Rattle.std.specs.Prelude.{◌≡◌};
-ghost use Rattle.replay.specs.Carried.{answer_to, carried, world_of};
+ghost use Rattle.replay.specs.Carried.{answer_to, carried};
+ghost use Rattle.replay.specs.Buffers.{SameBuffers, world_with};
 
-use crate::answers::{count, done, edits, flag, kind, newline, node, number, parent, perhaps};
-use crate::call::{Answer, Call};
+use crate::answer::{Answer, noted};
+use crate::buffers::Buffers;
+use crate::call::Call;
 use document::Document;
 use neighbours::{
     child_at_index, next_sibling, parent_info, previous_sibling, trailing_comma, value,
@@ -10,37 +12,38 @@ use neighbours::{
 use paths::{at, element_index, find, path};
 use printing::{print, text};
 use style::{newline_kind, uses_trailing_commas};
-use table::Place;
 
 /// Carries out one call, and answers what is recorded of it.
-pub fn carry(
-    document: &mut Document,
-    call: Call<'_>,
-    bytes: &mut [u8],
-    ordinals: &mut [usize],
-    queue: &mut [Place],
-) -> Answer
-    ensures answer { result ≡ answer_to (world_of document.old bytes.old ordinals.old queue.old) call.entry }
-    ensures world { world_of document.new bytes.new ordinals.new queue.old ≡ carried (world_of document.old bytes.old ordinals.old queue.old) call.entry }
+pub fn carry(document: &mut Document, call: Call<'_>, buffers: &mut Buffers<'_>) -> Answer
+    ensures answer { result ≡ answer_to (world_with document.old buffers.old) call.entry }
+    ensures world { world_with document.new buffers.new ≡ carried (world_with document.old buffers.old) call.entry }
+    ensures same { SameBuffers buffers.old buffers.new }
 {
     match call {
-        Call::Print => count(print(document, bytes)),
-        Call::Root => node(document.root()),
-        Call::Edits => edits(document.edits()),
-        Call::Value(handle) => perhaps(value(document, handle)),
-        Call::Kind(handle) => kind(document.kind(handle)),
-        Call::Path(handle) => count(path(document, handle, ordinals)),
-        Call::At(route) => node(at(document, route)),
-        Call::Find(handle, name) => perhaps(find(document, handle, name)),
-        Call::ParentInfo(handle) => parent(parent_info(document, handle)),
-        Call::PreviousSibling(handle) => perhaps(previous_sibling(document, handle)),
-        Call::NextSibling(handle) => perhaps(next_sibling(document, handle)),
-        Call::ChildAtIndex(handle, index) => perhaps(child_at_index(document, handle, index)),
-        Call::ElementIndex(handle) => number(element_index(document, handle)),
-        Call::TrailingComma(handle) => perhaps(trailing_comma(document, handle)),
-        Call::Text(handle) => count(text(document, handle, bytes)),
-        Call::NewlineKind => newline(newline_kind(document, queue)),
-        Call::UsesTrailingCommas(handle) => flag(uses_trailing_commas(document, handle, queue)),
-        Call::Clear => done(document.clear()),
+        Call::Print => noted(print(document, buffers.bytes), Answer::Count),
+        Call::Root => noted(document.root(), Answer::Node),
+        Call::Edits => noted(document.edits(), |edits| Answer::Count(edits as usize)),
+        Call::Value(handle) => noted(value(document, handle), Answer::Perhaps),
+        Call::Kind(handle) => noted(document.kind(handle), Answer::Kind),
+        Call::Path(handle) => noted(path(document, handle, buffers.ordinals), Answer::Count),
+        Call::At(route) => noted(at(document, route), Answer::Node),
+        Call::Find(handle, name) => noted(find(document, handle, name), Answer::Perhaps),
+        Call::ParentInfo(handle) => noted(parent_info(document, handle), Answer::Parent),
+        Call::PreviousSibling(handle) => {
+            noted(previous_sibling(document, handle), Answer::Perhaps)
+        }
+        Call::NextSibling(handle) => noted(next_sibling(document, handle), Answer::Perhaps),
+        Call::ChildAtIndex(handle, index) => {
+            noted(child_at_index(document, handle, index), Answer::Perhaps)
+        }
+        Call::ElementIndex(handle) => noted(element_index(document, handle), Answer::Number),
+        Call::TrailingComma(handle) => noted(trailing_comma(document, handle), Answer::Perhaps),
+        Call::Text(handle) => noted(text(document, handle, buffers.bytes), Answer::Count),
+        Call::NewlineKind => noted(newline_kind(document, buffers.queue), Answer::Break),
+        Call::UsesTrailingCommas(handle) => noted(
+            uses_trailing_commas(document, handle, buffers.queue),
+            Answer::Flag,
+        ),
+        Call::Clear => noted(document.clear(), |_| Answer::Done),
     }
 }

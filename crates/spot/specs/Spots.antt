@@ -1,5 +1,5 @@
 -- Lines and columns of a text. Assumes nothing.
-use Rattle.std.specs.Prelude.{ℕ, ◌+◌, true, false, cond, List, [], ◌∷◌, take, ◌==◌}
+use Rattle.std.specs.Prelude.{ℕ, ◌+◌, true, false, cond, List, [], ◌∷◌, ◌++◌, take, ◌==◌, codes, decimal}
 use Rattle.grammar.specs.Parse.{within}
 use Rattle.grammar.specs.Classes.{Tail}
 use Rattle.spot.specs.declared.Cursor.{Cursor}
@@ -24,3 +24,7 @@ counted c (b ∷ t) = counted (step c b) t
 -- the line and column behind the first `at` bytes
 abbrev pub spot_at : List ℕ → ℕ → Spot
 spot_at s at = record { line = (counted start (take at s)).line; column = (counted start (take at s)).column }
+
+-- as it is printed: `line 3 column 14`
+abbrev pub printed : Spot → List ℕ
+printed s = codes "line " ++ (decimal s.line ++ (codes " column " ++ decimal s.column))

@@ -1,16 +1,28 @@
 //! Where a byte stands in a text, as people count: lines and columns.
 #![tactic(auto)]
 
-ghost use Rattle.std.specs.Prelude.{◌≡◌, ◌+◌, ◌^◌, ◌<◌};
+ghost use Rattle.std.specs.Prelude.{◌≡◌, ◌+◌, ◌^◌, ◌<◌, Some};
 ghost use Rattle.grammar.specs.Classes.{Tail};
 ghost use Rattle.grammar.specs.Parse.{within};
-ghost use Rattle.spot.specs.Spots.{spot_at, step};
+ghost use Rattle.spot.specs.Spots.{printed, spot_at, start, step};
+
+use std::fmt;
 
 /// A line and a column, both from 1.
 #[derive(Clone, Copy, PartialEq, Eq, Debug)]
 pub struct Spot {
     pub line: usize,
     pub column: usize,
+}
+
+/// As `line 3 column 14`.
+impl fmt::Display for Spot {
+    ghost output = { λ s. Some (printed s) };
+
+    fn fmt<W: fmt::Write>(&self, f: &mut fmt::Formatter<W>) -> fmt::Result {
+        let Spot { line, column } = *self;
+        write!(f, "line {line} column {column}")
+    }
 }
 
 /// How far a text has been counted: where the next byte stands, and whether a carriage return has just stood.
@@ -25,44 +37,53 @@ struct Cursor {
 fn is_tail(b: u8) -> bool
     ensures { result ≡ within Tail b }
 {
-    b >= 0x80 && b <= 0xBF
+    (0x80..=0xBF).contains(&b)
 }
 
 impl Cursor {
+    /// Where a text begins.
+    fn start() -> Cursor
+        ensures { result ≡ start }
+    {
+        Cursor {
+            line: 1,
+            column: 1,
+            returned: false,
+        }
+    }
+
     /// Behind one byte more.
     fn step(self, b: u8) -> Cursor
         requires line { self.line + 1 < 2 ^ 64 }
         requires column { self.column + 1 < 2 ^ 64 }
         ensures { result ≡ step self b }
     {
-        if b == b'\r' {
-            return Cursor {
+        match b {
+            b'\r' => Cursor {
                 line: self.line + 1,
                 column: 1,
                 returned: true,
-            };
-        }
-        if b == b'\n' {
-            let line = if self.returned {
-                self.line
-            } else {
-                self.line + 1
-            };
-            return Cursor {
-                line,
+            },
+            // the line feed of a CR LF, whose line has ended
+            b'\n' if self.returned => Cursor {
                 column: 1,
                 returned: false,
-            };
-        }
-        let column = if is_tail(b) {
-            self.column
-        } else {
-            self.column + 1
-        };
-        Cursor {
-            line: self.line,
-            column,
-            returned: false,
+                ..self
+            },
+            b'\n' => Cursor {
+                line: self.line + 1,
+                column: 1,
+                returned: false,
+            },
+            _ if is_tail(b) => Cursor {
+                returned: false,
+                ..self
+            },
+            _ => Cursor {
+                column: self.column + 1,
+                returned: false,
+                ..self
+            },
         }
     }
 }
@@ -71,16 +92,10 @@ impl Cursor {
 pub fn locate(text: &[u8], at: usize) -> Spot
     ensures { result ≡ spot_at text.now at }
 {
-    let end = if at < text.len() { at } else { text.len() };
-    let mut cursor = Cursor {
-        line: 1,
-        column: 1,
-        returned: false,
-    };
-    let mut i = 0;
-    while i < end {
-        cursor = cursor.step(text[i]);
-        i += 1;
+    let end = at.min(text.len());
+    let mut cursor = Cursor::start();
+    for b in &text[..end] {
+        cursor = cursor.step(*b);
     }
     Spot {
         line: cursor.line,

@@ -1,7 +1,7 @@
-pub mod Levels
+pub mod Layers
 pub mod Queues
 pub mod Filling
 pub mod Waiting
 pub mod Members
 pub mod Rooms
-pub mod Called
+pub mod Breaks

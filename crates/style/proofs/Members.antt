@@ -1,48 +1,38 @@
--- The last member of siblings that are passed one by one. Assumes nothing.
-use Rattle.std.proofs.Common.{◌≡◌, ℕ, Some, None, Option, sym, refl, ap, ◌∙◌, arith}
-use Rattle.grammar.specs.Layout as said
-use Rattle.model.specs.Nodes.{Nodes, blank, break, remark, Class, gap, mark, value, class}
-use Rattle.model.specs.Asks.{or_else, last_at, behind_last}
-use Rattle.tree.specs.declared.class.Class.TheVariants.{Value}
-use Rattle.tree.specs.Classes.{plain}
-use Rattle.tree.specs.Steps.{rest, spot_of}
-use Rattle.style.specs.Commas.{behind_in}
+-- What a container decides, from what the walks along its children find. Assumes nothing.
+use Rattle.std.proofs.Common.{◌≡◌, ℕ, Bool, true, false, cond, ◌&&◌, [], ◌∷◌, Some, None, Option, sym, refl, ap, ◌∙◌, arith}
+use Rattle.std.specs.Option.{option_map, MatchOption}
+use Rattle.model.specs.Nodes.{Nodes, Sort, class}
+use Rattle.model.specs.Asks.{Spot, any, behind_last, bracketed, decided, decides, is_blank, is_comma, is_some, sort_of, spot_handle, then, trailing}
+use Rattle.tree.specs.declared.node.Node.{Node}
+use Rattle.tree.specs.Steps.{spot}
+use Rattle.tree.proofs.Listed.{comma_of}
+use Rattle.style.specs.Found.{found}
 
--- a member is a value
-value_is : (k : Class) → plain k ≡ Value → k ≡ value
-value_is (gap blank) e = let z : ◌≡◌ {A = ℕ} 0 1 = cc in absurd (omega arith)
-value_is (gap break) e = let z : ◌≡◌ {A = ℕ} 0 1 = cc in absurd (omega arith)
-value_is (gap (remark c)) e = let z : ◌≡◌ {A = ℕ} 0 1 = cc in absurd (omega arith)
-value_is (mark said.Open) e = let z : ◌≡◌ {A = ℕ} 0 1 = cc in absurd (omega arith)
-value_is (mark said.Close) e = let z : ◌≡◌ {A = ℕ} 0 1 = cc in absurd (omega arith)
-value_is (mark said.Comma) e = let z : ◌≡◌ {A = ℕ} 0 1 = cc in absurd (omega arith)
-value_is (mark said.Colon) e = let z : ◌≡◌ {A = ℕ} 0 1 = cc in absurd (omega arith)
-value_is (mark said.Name) e = let z : ◌≡◌ {A = ℕ} 0 1 = cc in absurd (omega arith)
-value_is value e = refl
+-- whether the first node that is no trivia is a comma
+pub first_comma : (P : Node → Type 0) (o : Option Node) (r : Bool) → MatchOption o (r ≡ false) P → ((n : Node) → P n → r ≡ is_comma (class (sort_of (spot n)))) → r ≡ is_some (then (option_map spot o) comma_of)
+first_comma P None r m h = m
+first_comma P (Some n) r m h = h n m ∙ go (is_comma (class (sort_of (spot n))))
+  where
+    go : (b : Bool) → b ≡ is_some (cond b (Some (spot_handle (spot n))) None)
+    go true = refl
+    go false = refl
 
--- what is no member is passed
-last_pass : (k : Class) (later : Option Nodes) (ts : Nodes) → (plain k ≡ Value → ⊥) → last_at k later ts ≡ later
-last_pass (gap g) later ts n = refl
-last_pass (mark m) later ts n = refl
-last_pass value later ts n = absurd (n refl)
+module _ (s : Sort) (ks : Nodes) where
+  -- neither is missing
+  pub decides_so : bracketed s ≡ true → any is_blank ks ≡ true → decides s ks ≡ decided (behind_last ks)
+  decides_so a b = ap (λ x. cond (x && any is_blank ks) (decided (behind_last ks)) []) a ∙ ap (λ x. cond x (decided (behind_last ks)) []) b
 
--- of three answers the last does not count where the second is there
-or_some : {A : Type 0} (x : Option A) (a : A) (l : Option A) → or_else (or_else x (Some a)) l ≡ or_else x (Some a)
-or_some (Some y) a l = refl
-or_some None a l = refl
+  -- no Whitespace is among its children
+  pub no_blank : any is_blank ks ≡ false → [] ≡ decides s ks
+  no_blank b = sym (ap (λ x. cond (bracketed s && x) (decided (behind_last ks)) []) b ∙ go (bracketed s))
+    where
+      go : (x : Bool) → cond (x && false) (decided (behind_last ks)) [] ≡ []
+      go true = refl
+      go false = refl
 
-module _ (ks : Nodes) (p : ℕ) (x l : Option ℕ) (r : Option Nodes) (e : rest x ks ≡ (spot_of p ks).here.after) (h : or_else (behind_last (rest (Some p) ks)) (behind_in l ks) ≡ r) where
-  -- a member is kept
-  pub member_kept : plain (class (spot_of p ks).here.own.sort) ≡ Value → or_else (behind_last (rest x ks)) (behind_in (Some p) ks) ≡ r
-  member_kept v =
-      let ts = (spot_of p ks).here.after in
-      ap (λ y. or_else (behind_last y) (Some ts)) e
-      ∙ (sym (or_some (behind_last ts) ts (behind_in l ks))
-      ∙ (ap (λ y. or_else (last_at y (behind_last ts) ts) (behind_in l ks)) (sym (value_is (class (spot_of p ks).here.own.sort) v)) ∙ h))
-
-  -- what is no member is passed
-  pub other_passed : (plain (class (spot_of p ks).here.own.sort) ≡ Value → ⊥) → or_else (behind_last (rest x ks)) (behind_in l ks) ≡ r
-  other_passed n =
-      let ts = (spot_of p ks).here.after in
-      ap (λ y. or_else (behind_last y) (behind_in l ks)) e
-      ∙ (ap (λ y. or_else y (behind_in l ks)) (sym (last_pass (class (spot_of p ks).here.own.sort) (behind_last ts) ts n)) ∙ h)
+-- what stands behind the last member
+pub decided_by : (r : Option Bool) (o : Option Spot) → option_map (λ b. b) r ≡ option_map (λ s. is_some (trailing s.here.after)) o → found r ≡ decided (option_map (λ s. s.here.after) o)
+decided_by None None e = refl
+decided_by None (Some s) e = let z : ◌≡◌ {A = ℕ} 0 1 = cc in absurd (omega arith)
+decided_by (Some b) None e = let z : ◌≡◌ {A = ℕ} 0 1 = cc in absurd (omega arith)
+decided_by (Some b) (Some s) e = let z : b ≡ is_some (trailing s.here.after) = cc in ap (λ x. x ∷ []) z

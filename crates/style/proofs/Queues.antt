@@ -3,9 +3,9 @@ use Rattle.std.proofs.Common.{◌≡◌, ℕ, ◌+◌, ◌≤◌, List, [], ◌�
 use Rattle.forest.specs.Forest.{end, node, append, size}
 use Rattle.model.specs.Nodes.{Sort, Nodes}
 use Rattle.model.specs.Asks.{layers, first_of, width}
-use Rattle.tree.specs.Steps.{spot_of}
+use Rattle.tree.specs.Places.{spot_of}
 use Rattle.style.specs.Standing.{standing, Each}
-use Rattle.style.proofs.Levels.{seek, seek_start, seek_down, seek_hit, seek_miss}
+use Rattle.style.proofs.Layers.{seek, seek_start, seek_down, seek_hit, seek_miss}
 
 pub size_append : (a b : Nodes) → size (append a b) ≡ size a + size b
 size_append end b = omega arith

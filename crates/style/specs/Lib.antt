@@ -1,3 +1,3 @@
 pub mod Standing
 pub mod Breaks
-pub mod Commas
+pub mod Found

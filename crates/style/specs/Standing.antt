@@ -1,8 +1,8 @@
--- The nodes at places, as siblings, and a queue that took in a node's children. Assumes nothing.
+-- The nodes at places, as siblings, and a queue that took in siblings. Assumes nothing.
 use Rattle.std.specs.Prelude.{◌≡◌, ℕ, List, [], ◌∷◌, ◌++◌}
 use Rattle.forest.specs.Forest.{end, node}
 use Rattle.model.specs.Nodes.{Nodes}
-use Rattle.tree.specs.Steps.{Stands, spot_of}
+use Rattle.tree.specs.Places.{Stands, spot_of}
 use Rattle.worklist.specs.declared.list.WorkList.{WorkList}
 use Rattle.worklist.specs.Listed.{listed, taken, room}
 
@@ -21,10 +21,10 @@ abbrev pub heads : Nodes → List ℕ
 heads end = []
 heads (node p i ks ts) = p ∷ heads ts
 
--- the queue v with the places of the children of the node at p put behind is w; and those places are where the children stand
-pub record Filled (ks : Nodes) (p : ℕ) (v w : WorkList ℕ) : Type 0 where
-  pub listed_is : listed w ≡ listed v ++ heads (spot_of p ks).kids
+-- the queue v with the places of the siblings ts put behind is w; and those places are where they stand
+pub record Filled (ks ts : Nodes) (v w : WorkList ℕ) : Type 0 where
+  pub listed_is : listed w ≡ listed v ++ heads ts
   pub taken_is : taken w ≡ taken v
   pub room_is : room w ≡ room v
-  pub each : Each ks (heads (spot_of p ks).kids)
-  pub stand : standing ks (heads (spot_of p ks).kids) ≡ (spot_of p ks).kids
+  pub each : Each ks (heads ts)
+  pub stand : standing ks (heads ts) ≡ ts

@@ -1,7 +1,8 @@
 //! The questions of a document, with what they refuse: BadMemory before a load or where the queue is short, Gone.
 
-ghost use Rattle.std.specs.Prelude.{◌≡◌, length, nat_le};
-ghost use Rattle.model.specs.State.{newline_answer, uses_answer};
+ghost use Rattle.std.specs.Prelude.{◌≡◌, ◌||◌, length, nat_lt};
+ghost use Rattle.model.specs.State.{Given, newline_answer, uses_answer, unless, unloaded};
+ghost use Rattle.refusal.specs.declared.Refusal.TheVariants.{BadMemory};
 ghost use Rattle.tree.specs.Sorts.{handle_for};
 ghost use Rattle.tree.specs.Trees.{state};
 ghost use Rattle.document.specs.Documents.{state_of, told};
@@ -14,21 +15,22 @@ use refusal::Refusal;
 use table::{Handle, Place};
 use tree::Tree;
 
-/// Whether the queue has a place for each record.
-fn has_room(tree: &Tree, queue: &[Place]) -> bool
-    ensures { result ≡ nat_le (state tree.now).records (length queue.now) }
+/// The tree that was loaded, where the queue has a place for each of its records.
+fn tree_with_room<'a>(document: &'a Document, queue: &[Place]) -> Result<&'a Tree, Refusal>
+    ensures { let s = state_of document.now in told (λ t. state t.now) result ≡ unless (unloaded s || nat_lt (length queue.now) s.records) BadMemory (Given s) }
 {
-    tree.records() <= queue.len()
+    let tree = document.loaded()?;
+    if tree.records() > queue.len() {
+        return Err(Refusal::BadMemory);
+    }
+    Ok(tree)
 }
 
 /// The line break that the document is written with. The queue has a place for each record.
 pub fn newline_kind(document: &Document, queue: &mut [Place]) -> Result<NewlineKind, Refusal>
     ensures { told kind_for result ≡ newline_answer (state_of document.now) (length queue.old) }
 {
-    let tree = document.loaded()?;
-    if !has_room(tree, queue) {
-        return Err(Refusal::BadMemory);
-    }
+    let tree = tree_with_room(document, queue)?;
     Ok(newline_kind_in(tree, queue))
 }
 
@@ -40,10 +42,6 @@ pub fn uses_trailing_commas(
 ) -> Result<bool, Refusal>
     ensures { told (λ b. b) result ≡ uses_answer (state_of document.now) (handle_for handle) (length queue.old) }
 {
-    let tree = document.loaded()?;
-    if !has_room(tree, queue) {
-        return Err(Refusal::BadMemory);
-    }
-    let place = tree.find(handle)?;
-    Ok(uses_trailing_commas_in(tree, place, queue))
+    let node = tree_with_room(document, queue)?.find(handle)?;
+    Ok(uses_trailing_commas_in(node, queue))
 }

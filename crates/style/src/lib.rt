@@ -6,6 +6,7 @@
 mod calls;
 mod children;
 mod commas;
+mod levels;
 mod newline;
 
 pub use calls::{newline_kind, uses_trailing_commas};

@@ -1,19 +1,21 @@
 -- `link_after` makes of a table for a forest one for the forest with the leaf in it.
-use Rattle.std.proofs.Common.{◌≡◌, ℕ, ◌<◌, ◌≤◌, eqb, ◌⊎◌, List, [], ◌∷◌, ◌++◌, length, set, sym, refl, ap, ◌∙◌, inl, inr, ⊎_elim, arith, length-append}
+use Rattle.std.proofs.Common.{◌≡◌, ℕ, ◌<◌, ◌⊎◌, List, [], ◌∷◌, ◌++◌, length, set, sym, refl, ap, ◌∙◌, inl, inr, ⊎_elim, arith, length-append}
 use Rattle.std.proofs.lemmas.List.{length-set}
-use Rattle.std.proofs.lemmas.Bool.{cases_eq, cases_lt, cond_both, eqb-true, eqb-false}
+use Rattle.std.proofs.lemmas.Bool.{cases_eq}
 use Rattle.forest.specs.Forest.{Forest, count, occurs, Distinct}
 use Rattle.forest.specs.Edits.{ins_after}
 use Rattle.forest.specs.Links.{none}
-use Rattle.forest.proofs.Frames.{one_same, one_other, next_inside, up_inside}
+use Rattle.forest.proofs.Frames.{one_same, one_other}
 use Rattle.forest.proofs.Places.{occurs-++}
 use Rattle.forest.proofs.Inserts.{ins_owns, ins_ups, ins_firsts, ins_nexts, ins_prevs, ins_lasts, ins_count, ins_size, ins_head, ins_not_last}
 use Rattle.table.specs.declared.node.Own.{Own}
 use Rattle.table.specs.declared.node.Node.{Node}
 use Rattle.table.specs.Nodes.{leaf, at, own_of, up_of, prev_of, next_of, first_of, last_of}
-use Rattle.table.specs.Writes.{with_next, with_prev, with_last, set_prev, set_last, joined, link_after}
+use Rattle.table.specs.Writes.{with_next, with_prev, with_last, joined, link_after}
 use Rattle.table.specs.Sound.{Holds, Sound, within}
 use Rattle.table.proofs.Writes.{at_same, at_other, keeps, lt_within, within_le}
+use Rattle.table.proofs.Sides.{right_keeps, right_long, right_prev, right_prev_off, right_last, right_last_off}
+use Rattle.table.proofs.Standing.{each_once, all_in, none_out, c_once, next_there, next_within, up_some, parent_there, up_within}
 
 -- the table ys has the leaf n with i after s, where xs had not
 pub record Linked (xs : List Node) (s n : ℕ) (i : Own) (ys : List Node) : Type 0 where
@@ -64,13 +66,13 @@ module _ (xs : List Node) (s n : ℕ) (i : Own) (s-in : s < length xs) (n-in : n
 
   put_next_s : next_of (joined xs s n i) s ≡ n
   put_next_s =
-      ap (λ x. x.next) (at_same (set xs n (leaf i (up_of xs s) s (next_of xs s))) s
+      ap (λ x. x.next.0) (at_same (set xs n (leaf i (up_of xs s) s (next_of xs s))) s
       (with_next (at (set xs n (leaf i (up_of xs s) s (next_of xs s))) s) n)
       (omega (arith, length-set xs n (leaf i (up_of xs s) s (next_of xs s)))))
 
   put_next_off : (k : ℕ) → (k ≡ n → ⊥) → (k ≡ s → ⊥) → next_of (joined xs s n i) k ≡ next_of xs k
   put_next_off k d e =
-      ap (λ x. x.next) (at_other (set xs n (leaf i (up_of xs s) s (next_of xs s))) s k
+      ap (λ x. x.next.0) (at_other (set xs n (leaf i (up_of xs s) s (next_of xs s))) s k
       (with_next (at (set xs n (leaf i (up_of xs s) s (next_of xs s))) s) n) e
       ∙ at_other xs n k (leaf i (up_of xs s) s (next_of xs s)) d)
 
@@ -78,29 +80,28 @@ module _ (xs : List Node) (s n : ℕ) (i : Own) (s-in : s < length xs) (n-in : n
   put_length = simp length-set
 
   pub link_length : length (link_after xs s n i) ≡ length xs
-  link_length =
-      cond_both (eqb (next_of xs s) none) (set_last (joined xs s n i) (up_of xs s) n) (set_prev (joined xs s n i) (next_of xs s) n)
-      (λ z. length z ≡ length xs) (λ e. simp length-set) (λ e. simp length-set)
+  link_length = right_long (joined xs s n i) (up_of xs s) n (next_of xs s) ∙ put_length
 
-  -- s was the last of its siblings, and u, its parent, gets a new last
-  linked_last : (up_of xs s < length xs) → (n ≡ up_of xs s → ⊥) → next_of xs s ≡ none → Linked xs s n i (set_last (joined xs s n i) (up_of xs s) n)
-  linked_last u_in nu q =
+  -- what came after s, or its parent where nothing did, leads back to n
+  pub linked : up_of xs s < length xs → (n ≡ up_of xs s → ⊥) → ((next_of xs s ≡ none → ⊥) → (next_of xs s < length xs) × (n ≡ next_of xs s → ⊥))
+      → Linked xs s n i (link_after xs s n i)
+  linked u_in nu q_is =
       record {
-        own_n = K (λ x. x.own) refl n ∙ ap (λ x. x.own) put_n;
-        own_off = λ k d. K (λ x. x.own) refl k ∙ put_off (λ x. x.own) (λ _. refl) k d;
-        up_n = K (λ x. x.parent) refl n ∙ ap (λ x. x.parent) put_n;
-        up_off = λ k d. K (λ x. x.parent) refl k ∙ put_off (λ x. x.parent) (λ _. refl) k d;
-        first_n = K (λ x. x.first) refl n ∙ ap (λ x. x.first) put_n;
-        first_off = λ k d. K (λ x. x.first) refl k ∙ put_off (λ x. x.first) (λ _. refl) k d;
-        next_n = K (λ x. x.next) refl n ∙ ap (λ x. x.next) put_n;
-        next_s = K (λ x. x.next) refl s ∙ put_next_s;
-        next_off = λ k d e. K (λ x. x.next) refl k ∙ put_next_off k d e;
-        prev_n = K (λ x. x.prev) refl n ∙ ap (λ x. x.prev) put_n;
-        prev_q = inr q;
-        prev_off = λ k d e. K (λ x. x.prev) refl k ∙ put_off (λ x. x.prev) (λ _. refl) k d;
-        last_n = ap (λ x. x.last) (at_other P u n w nu ∙ put_n);
-        last_u = λ _. ap (λ x. x.last) (at_same P u w (omega (arith, put_length)));
-        last_off = λ k d v. ap (λ x. x.last) (at_other P u k w (⊎_elim (λ e. e) (λ e _. e q) v)) ∙ put_off (λ x. x.last) (λ _. refl) k d;
+        own_n = K (λ x. x.own) (λ _ _. refl) (λ _ _. refl) n ∙ ap (λ x. x.own) put_n;
+        own_off = λ k d. K (λ x. x.own) (λ _ _. refl) (λ _ _. refl) k ∙ put_off (λ x. x.own) (λ _. refl) k d;
+        up_n = K (λ x. x.parent.0) (λ _ _. refl) (λ _ _. refl) n ∙ ap (λ x. x.parent.0) put_n;
+        up_off = λ k d. K (λ x. x.parent.0) (λ _ _. refl) (λ _ _. refl) k ∙ put_off (λ x. x.parent.0) (λ _. refl) k d;
+        first_n = K (λ x. x.first.0) (λ _ _. refl) (λ _ _. refl) n ∙ ap (λ x. x.first.0) put_n;
+        first_off = λ k d. K (λ x. x.first.0) (λ _ _. refl) (λ _ _. refl) k ∙ put_off (λ x. x.first.0) (λ _. refl) k d;
+        next_n = K (λ x. x.next.0) (λ _ _. refl) (λ _ _. refl) n ∙ ap (λ x. x.next.0) put_n;
+        next_s = K (λ x. x.next.0) (λ _ _. refl) (λ _ _. refl) s ∙ put_next_s;
+        next_off = λ k d e. K (λ x. x.next.0) (λ _ _. refl) (λ _ _. refl) k ∙ put_next_off k d e;
+        prev_n = right_prev_off P u n q n (λ d. (q_is d).1) ∙ ap (λ x. x.prev.0) put_n;
+        prev_q = ⊎_elim (λ e. inr e) (λ d. inl (right_prev P u n q d (omega (arith, (q_is d).0, put_length)))) (cases_eq q none);
+        prev_off = λ k d e. right_prev_off P u n q k (λ _. e) ∙ put_off (λ x. x.prev.0) (λ _. refl) k d;
+        last_n = right_last_off P u n q n (inl nu) ∙ ap (λ x. x.last.0) put_n;
+        last_u = λ e. right_last P u n q e (omega (arith, put_length));
+        last_off = λ k d v. right_last_off P u n q k v ∙ put_off (λ x. x.last.0) (λ _. refl) k d;
       }
     where
       P : List Node
@@ -109,66 +110,15 @@ module _ (xs : List Node) (s n : ℕ) (i : Own) (s-in : s < length xs) (n-in : n
       u : ℕ
       u = up_of xs s
 
-      w : Node
-      w = with_last (at (joined xs s n i) (up_of xs s)) n
+      q : ℕ
+      q = next_of xs s
 
-      K : {X : Type 0} (π : Node → X) → π (with_last (at (joined xs s n i) (up_of xs s)) n) ≡ π (at (joined xs s n i) (up_of xs s)) → (j : ℕ)
-          → π (at (set_last (joined xs s n i) (up_of xs s) n) j) ≡ π (at (joined xs s n i) j)
-      K π e j = keeps π (joined xs s n i) (up_of xs s) (with_last (at (joined xs s n i) (up_of xs s)) n) e j
+      K : {X : Type 0} (π : Node → X) → ((y : Node) (v : ℕ) → π (with_last y v) ≡ π y) → ((y : Node) (v : ℕ) → π (with_prev y v) ≡ π y)
+          → (k : ℕ) → π (at (link_after xs s n i) k) ≡ π (at (joined xs s n i) k)
+      K π a b k = right_keeps (joined xs s n i) (up_of xs s) n (next_of xs s) π a b k
 
-  -- s had a next, which comes after n now
-  linked_next : (next_of xs s < length xs) → (n ≡ next_of xs s → ⊥) → (next_of xs s ≡ none → ⊥) → Linked xs s n i (set_prev (joined xs s n i) (next_of xs s) n)
-  linked_next q_in nq q =
-      record {
-        own_n = K (λ x. x.own) refl n ∙ ap (λ x. x.own) put_n;
-        own_off = λ k d. K (λ x. x.own) refl k ∙ put_off (λ x. x.own) (λ _. refl) k d;
-        up_n = K (λ x. x.parent) refl n ∙ ap (λ x. x.parent) put_n;
-        up_off = λ k d. K (λ x. x.parent) refl k ∙ put_off (λ x. x.parent) (λ _. refl) k d;
-        first_n = K (λ x. x.first) refl n ∙ ap (λ x. x.first) put_n;
-        first_off = λ k d. K (λ x. x.first) refl k ∙ put_off (λ x. x.first) (λ _. refl) k d;
-        next_n = K (λ x. x.next) refl n ∙ ap (λ x. x.next) put_n;
-        next_s = K (λ x. x.next) refl s ∙ put_next_s;
-        next_off = λ k d e. K (λ x. x.next) refl k ∙ put_next_off k d e;
-        prev_n = ap (λ x. x.prev) (at_other P u n w nq ∙ put_n);
-        prev_q = inl (ap (λ x. x.prev) (at_same P u w (omega (arith, put_length))));
-        prev_off = λ k d e. ap (λ x. x.prev) (at_other P u k w e) ∙ put_off (λ x. x.prev) (λ _. refl) k d;
-        last_n = K (λ x. x.last) refl n ∙ ap (λ x. x.last) put_n;
-        last_u = λ e. absurd (q e);
-        last_off = λ k d v. K (λ x. x.last) refl k ∙ put_off (λ x. x.last) (λ _. refl) k d;
-      }
-    where
-      P : List Node
-      P = joined xs s n i
-
-      u : ℕ
-      u = next_of xs s
-
-      w : Node
-      w = with_prev (at (joined xs s n i) (next_of xs s)) n
-
-      K : {X : Type 0} (π : Node → X) → π (with_prev (at (joined xs s n i) (next_of xs s)) n) ≡ π (at (joined xs s n i) (next_of xs s)) → (j : ℕ)
-          → π (at (set_prev (joined xs s n i) (next_of xs s) n) j) ≡ π (at (joined xs s n i) j)
-      K π e j = keeps π (joined xs s n i) (next_of xs s) (with_prev (at (joined xs s n i) (next_of xs s)) n) e j
-
-  pub linked : up_of xs s < length xs → (n ≡ up_of xs s → ⊥) → ((next_of xs s ≡ none → ⊥) → (next_of xs s < length xs) × (n ≡ next_of xs s → ⊥))
-      → Linked xs s n i (link_after xs s n i)
-  linked u_in nu q =
-      cond_both (eqb (next_of xs s) none) (set_last (joined xs s n i) (up_of xs s) n) (set_prev (joined xs s n i) (next_of xs s) n)
-      (λ z. Linked xs s n i z)
-      (λ e. linked_last u_in nu (eqb-true (next_of xs s) none e))
-      (λ e. let d : next_of xs s ≡ none → ⊥ = eqb-false (next_of xs s) none e in linked_next (q d).0 (q d).1 d)
-
--- what a sound table says of a node that is no root, and of the free place on top
+-- what a sound table says of a node, and of the free place on top
 module _ (xs : List Node) (free : List ℕ) (n s : ℕ) (ts : Forest Own) (h : Sound xs (free ++ n ∷ []) ts) (c : 0 < count s ts) where
-  pub all_once : (k : ℕ) → count k ts ≤ 1
-  all_once k = omega (arith, h.once k, within_le k (length xs))
-
-  pub in_table : (k : ℕ) → 0 < count k ts → k < length xs
-  in_table k l = lt_within k (length xs) (omega (arith, h.once k))
-
-  pub no_none : count none ts ≡ 0
-  no_none = ⊎_elim (λ l. absurd (omega (arith, in_table none l, h.small))) (λ l. omega arith) (cases_lt 0 (count none ts))
-
   top_in : 0 < occurs n (free ++ n ∷ [])
   top_in = omega (arith, occurs-++ n free (n ∷ []), one_same n)
 
@@ -181,33 +131,27 @@ module _ (xs : List Node) (free : List ℕ) (n s : ℕ) (ts : Forest Own) (h : S
   pub not_top : (k : ℕ) → 0 < count k ts → n ≡ k → ⊥
   not_top k l e = omega (arith, ap (λ y. count y ts) e, top_off)
 
-  pub after_up : (up_of xs s ≡ none → ⊥) → 0 < count (up_of xs s) ts
-  after_up r = ⊎_elim (λ l. absurd (r l)) (λ l. l) (up_inside (up_of xs) none s ts h.holds.ups (omega (arith, all_once s)))
-
-  pub after_next : (next_of xs s ≡ none → ⊥) → 0 < count (next_of xs s) ts
-  after_next r = ⊎_elim (λ l. absurd (r l)) (λ l. l) (next_inside (next_of xs) s ts h.holds.nexts (omega (arith, all_once s)))
-
-  pub after_sound : (i : Own) → (i.number ≡ 0 → ⊥) → (up_of xs s ≡ none → ⊥) → Sound (link_after xs s n i) free (ins_after s n i ts)
+  pub after_sound : (i : Own) → (i.number ≡ 0 → ⊥) → (s ≡ 0 → ⊥) → Sound (link_after xs s n i) free (ins_after s n i ts)
   after_sound i nz r =
       record {
-        holds = linked_holds xs (link_after xs s n i) s n i ts L all_once no_none (omega (arith, all_once s)) top_off h.holds;
-        starts = ins_head s n i ts none (omega (arith, all_once s)) ∙ h.starts;
-        stops = ins_not_last s n i (next_of xs) (up_of xs) none none ts (omega (arith, all_once s)) h.holds.nexts h.holds.ups (inl r) ∙ h.stops;
-        once = λ k. omega (arith, ins_count s n i k ts (omega (arith, all_once s)), h.once k, occurs-++ k free (n ∷ []), ap (λ z. within k z) len);
-        sized = omega (arith, ins_size s n i ts (omega (arith, all_once s)), h.sized, length-append free (n ∷ []), len);
+        holds = linked_holds xs (link_after xs s n i) s n i ts L (each_once xs (free ++ n ∷ []) ts h) (none_out xs (free ++ n ∷ []) ts h) o top_off h.holds;
+        starts = ins_head s n i ts none o ∙ h.starts;
+        stops = ins_not_last s n i (next_of xs) (up_of xs) none none ts o h.holds.nexts h.holds.ups (inl (up_some xs (free ++ n ∷ []) ts h s c r)) ∙ h.stops;
+        once = λ k. omega (arith, ins_count s n i k ts o, h.once k, occurs-++ k free (n ∷ []), ap (λ z. within k z) len);
+        sized = omega (arith, ins_size s n i ts o, h.sized, length-append free (n ∷ []), len);
         small = omega (arith, h.small, len);
         freed = λ k l. ap (λ x. x.number) (L.own_off k (λ e. omega (arith, ap (λ z. occurs z free) e, h.once n, within_le n (length xs), occurs-++ n free (n ∷ []), one_same n)))
             ∙ h.freed k (omega (arith, occurs-++ k free (n ∷ [])));
         live = λ k l e. ⊎_elim (λ q. nz (sym (ap (λ x. x.number) L.own_n) ∙ (ap (λ y. (at (link_after xs s n i) y).own.number) (sym q) ∙ e)))
-            (λ d. h.live k (omega (arith, ins_count s n i k ts (omega (arith, all_once s)), one_other n k (λ q. d (sym q)))) (sym (ap (λ x. x.number) (L.own_off k d)) ∙ e)) (cases_eq k n);
+            (λ d. h.live k (omega (arith, ins_count s n i k ts o, one_other n k (λ q. d (sym q)))) (sym (ap (λ x. x.number) (L.own_off k d)) ∙ e)) (cases_eq k n);
       }
     where
-      ne : s ≡ n → ⊥
-      ne e = not_top s c (sym e)
+      o : count s ts ≡ 1
+      o = c_once xs (free ++ n ∷ []) ts h s c
 
       L : Linked xs s n i (link_after xs s n i)
-      L = linked xs s n i (in_table s c) top_within (λ e. not_top s c (sym e)) (in_table (up_of xs s) (after_up r)) (not_top (up_of xs s) (after_up r))
-          (λ d. (in_table (next_of xs s) (after_next d), not_top (next_of xs s) (after_next d)))
+      L = linked xs s n i (all_in xs (free ++ n ∷ []) ts h s c) top_within (λ e. not_top s c (sym e)) (up_within xs (free ++ n ∷ []) ts h s c r) (not_top (up_of xs s) (parent_there xs (free ++ n ∷ []) ts h s c r))
+          (λ d. (next_within xs (free ++ n ∷ []) ts h s c d, not_top (next_of xs s) (next_there xs (free ++ n ∷ []) ts h s c d)))
 
       len : length (link_after xs s n i) ≡ length xs
-      len = link_length xs s n i (in_table s c) top_within (λ e. not_top s c (sym e))
+      len = link_length xs s n i (all_in xs (free ++ n ∷ []) ts h s c) top_within (λ e. not_top s c (sym e))

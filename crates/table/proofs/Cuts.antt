@@ -1,7 +1,7 @@
 -- `unlinked` and a release make of a table for a forest one for the forest without the node c.
-use Rattle.std.proofs.Common.{◌≡◌, ℕ, ◌+◌, ◌<◌, ◌≤◌, eqb, ◌⊎◌, List, length, sym, refl, ap, ◌∙◌, inl, ⊎_elim, arith, length-append}
+use Rattle.std.proofs.Common.{◌≡◌, ℕ, ◌+◌, ◌<◌, ◌≤◌, ◌⊎◌, List, length, sym, refl, ap, ◌∙◌, inl, ⊎_elim, arith, length-append}
 use Rattle.std.proofs.lemmas.List.{length-set}
-use Rattle.std.proofs.lemmas.Bool.{cases_lt, cond_both, eqb-true, eqb-false}
+use Rattle.std.proofs.lemmas.Bool.{cases_lt}
 use Rattle.forest.specs.Forest.{Forest, end, node, one, count, places, occurs, Distinct}
 use Rattle.forest.specs.Edits.{delete, kids}
 use Rattle.forest.specs.Links.{none}
@@ -11,9 +11,11 @@ use Rattle.forest.proofs.Deletes.{out_off, del_count, del_size, del_owns, del_up
 use Rattle.table.specs.declared.node.Own.{Own}
 use Rattle.table.specs.declared.node.Node.{Node}
 use Rattle.table.specs.Nodes.{at, own_of, up_of, prev_of, next_of, first_of, last_of}
-use Rattle.table.specs.Writes.{with_next, with_prev, with_last, with_first, set_next, set_prev, set_first, set_last, cut_left, cut_right, cut_both, unlinked}
+use Rattle.table.specs.Writes.{with_next, cut_left, cut_both, unlinked}
 use Rattle.table.specs.Sound.{Holds, Sound, Loose, Released, within}
-use Rattle.table.proofs.Writes.{at_same, at_other, keeps, lt_within, within_le}
+use Rattle.table.proofs.Writes.{at_same, at_other, keeps}
+use Rattle.table.proofs.Standing.{each_once, none_out, c_once}
+use Rattle.table.proofs.Sides.{left_keeps, left_long, left_next, left_next_off, left_first, left_first_off, right_keeps, right_long, right_prev, right_prev_off, right_last, right_last_off}
 
 -- the table ys has all links of xs lead past c, which leads to its own children alone
 pub record Cut (xs : List Node) (c : ℕ) (ys : List Node) : Type 0 where
@@ -86,44 +88,32 @@ pub holds_kept : (xs ys : List Node) (ts : Forest Own) → ((k : ℕ) → 0 < co
 holds_kept xs ys ts s h =
     record {
       owns = owns_kept (own_of xs) (own_of ys) ts (λ k l. ap (λ x. x.own) (s k l)) h.owns;
-      ups = ups_kept (up_of xs) (up_of ys) none ts (λ k l. ap (λ x. x.parent) (s k l)) h.ups;
-      prevs = prevs_kept (prev_of xs) (prev_of ys) none ts (λ k l. ap (λ x. x.prev) (s k l)) h.prevs;
-      nexts = nexts_kept (next_of xs) (next_of ys) ts (λ k l. ap (λ x. x.next) (s k l)) h.nexts;
-      firsts = firsts_kept (first_of xs) (first_of ys) ts (λ k l. ap (λ x. x.first) (s k l)) h.firsts;
-      lasts = lasts_kept (last_of xs) (last_of ys) ts (λ k l. ap (λ x. x.last) (s k l)) h.lasts;
+      ups = ups_kept (up_of xs) (up_of ys) none ts (λ k l. ap (λ x. x.parent.0) (s k l)) h.ups;
+      prevs = prevs_kept (prev_of xs) (prev_of ys) none ts (λ k l. ap (λ x. x.prev.0) (s k l)) h.prevs;
+      nexts = nexts_kept (next_of xs) (next_of ys) ts (λ k l. ap (λ x. x.next.0) (s k l)) h.nexts;
+      firsts = firsts_kept (first_of xs) (first_of ys) ts (λ k l. ap (λ x. x.first.0) (s k l)) h.firsts;
+      lasts = lasts_kept (last_of xs) (last_of ys) ts (λ k l. ap (λ x. x.last.0) (s k l)) h.lasts;
     }
 
 -- what a sound table says of a node c that is no root
 module _ (xs : List Node) (free : List ℕ) (ts : Forest Own) (h : Sound xs free ts) (c : ℕ) (o : 0 < count c ts) where
-  pub each_once : (k : ℕ) → count k ts ≤ 1
-  each_once k = omega (arith, h.once k, within_le k (length xs))
-
-  pub c_once : count c ts ≡ 1
-  c_once = omega (arith, each_once c)
-
-  pub all_in : (k : ℕ) → 0 < count k ts → k < length xs
-  all_in k l = lt_within k (length xs) (omega (arith, h.once k))
-
-  pub none_out : count none ts ≡ 0
-  none_out = ⊎_elim (λ l. absurd (omega (arith, all_in none l, h.small))) (λ l. omega arith) (cases_lt 0 (count none ts))
-
   pub cut_sound : (c ≡ 0 → ⊥) → (ys : List Node) → Cut xs c ys → (zs : List Node) (more : List ℕ) → Released ys free (subtree xs c ts) zs more → Sound zs more (delete c ts)
   cut_sound nz ys l zs more r =
       record {
-        holds = holds_kept ys zs (delete c ts) (λ k m. r.off k (omega (arith, C k, each_once k))) (cut_holds xs ys c ts l each_once none_out c_once h.holds);
-        starts = del_head c ts none c_once (λ e. nz (sym e ∙ h.starts)) ∙ h.starts;
-        stops = del_last_off c none ts c_once (λ e. nz (sym e ∙ h.stops)) ∙ h.stops;
+        holds = holds_kept ys zs (delete c ts) (λ k m. r.off k (omega (arith, C k, each_once xs free ts h k))) (cut_holds xs ys c ts l (each_once xs free ts h) (none_out xs free ts h) (c_once xs free ts h c o) h.holds);
+        starts = del_head c ts none (c_once xs free ts h c o) (λ e. nz (sym e ∙ h.starts)) ∙ h.starts;
+        stops = del_last_off c none ts (c_once xs free ts h c o) (λ e. nz (sym e ∙ h.stops)) ∙ h.stops;
         once = λ k. omega (arith, h.once k, C k, S k, ap (λ y. within k y) len);
-        sized = omega (arith, h.sized, del_size c ts c_once, ap length r.stack, length-append free (places (subtree xs c ts)), length_places (subtree xs c ts), len);
+        sized = omega (arith, h.sized, del_size c ts (c_once xs free ts h c o), ap length r.stack, length-append free (places (subtree xs c ts)), length_places (subtree xs c ts), len);
         small = omega (arith, h.small, len);
         freed = λ k m. ⊎_elim (λ a. r.zeros k a)
             (λ a. ap (λ x. x.own.number) (r.off k (omega arith)) ∙ (ap (λ x. x.number) (l.own_all k) ∙ h.freed k (omega (arith, S k))))
             (cases_lt 0 (count k (subtree xs c ts)));
-        live = λ k m e. h.live k (omega (arith, C k)) (sym (ap (λ x. x.number) (l.own_all k)) ∙ (sym (ap (λ x. x.own.number) (r.off k (omega (arith, C k, each_once k)))) ∙ e));
+        live = λ k m e. h.live k (omega (arith, C k)) (sym (ap (λ x. x.number) (l.own_all k)) ∙ (sym (ap (λ x. x.own.number) (r.off k (omega (arith, C k, each_once xs free ts h k)))) ∙ e));
       }
     where
       C : (k : ℕ) → count k ts ≡ count k (delete c ts) + (one c k + count k (kids c ts))
-      C k = del_count c k ts c_once
+      C k = del_count c k ts (c_once xs free ts h c o)
 
       S : (k : ℕ) → occurs k more ≡ occurs k free + count k (subtree xs c ts)
       S k = omega (arith, ap (λ y. occurs k y) r.stack, occurs-++ k free (places (subtree xs c ts)), occurs_places k (subtree xs c ts))
@@ -131,68 +121,7 @@ module _ (xs : List Node) (free : List ℕ) (ts : Forest Own) (h : Sound xs free
       len : length zs ≡ length xs
       len = r.long ∙ l.long
 
--- the two writes of a cut, each at a parent or at a sibling
-module _ (xs : List Node) (u q x : ℕ) where
-  left_case : (P : List Node → Type 0) → (q ≡ none → P (set_first xs u x)) → ((q ≡ none → ⊥) → P (set_next xs q x)) → P (cut_left xs u q x)
-  left_case P a b = cond_both (eqb q none) (set_first xs u x) (set_next xs q x) P (λ e. a (eqb-true q none e)) (λ e. b (eqb-false q none e))
-
-  left_keeps : {X : Type 0} (π : Node → X) → ((y : Node) (v : ℕ) → π (with_first y v) ≡ π y) → ((y : Node) (v : ℕ) → π (with_next y v) ≡ π y)
-      → (k : ℕ) → π (at (cut_left xs u q x) k) ≡ π (at xs k)
-  left_keeps π a b k =
-      left_case (λ z. π (at z k) ≡ π (at xs k)) (λ _. keeps π xs u (with_first (at xs u) x) (a (at xs u) x) k) (λ _. keeps π xs q (with_next (at xs q) x) (b (at xs q) x) k)
-
-  left_long : length (cut_left xs u q x) ≡ length xs
-  left_long = left_case (λ z. length z ≡ length xs) (λ _. simp length-set) (λ _. simp length-set)
-
-  left_next : (q ≡ none → ⊥) → q < length xs → next_of (cut_left xs u q x) q ≡ x
-  left_next d l = left_case (λ z. next_of z q ≡ x) (λ e. absurd (d e)) (λ _. ap (λ y. y.next) (at_same xs q (with_next (at xs q) x) l))
-
-  left_next_off : (k : ℕ) → (k ≡ q → ⊥) → next_of (cut_left xs u q x) k ≡ next_of xs k
-  left_next_off k d =
-      left_case (λ z. next_of z k ≡ next_of xs k) (λ _. keeps (λ y. y.next) xs u (with_first (at xs u) x) refl k)
-      (λ _. ap (λ y. y.next) (at_other xs q k (with_next (at xs q) x) d))
-
-  left_first : q ≡ none → u < length xs → first_of (cut_left xs u q x) u ≡ x
-  left_first d l = left_case (λ z. first_of z u ≡ x) (λ _. ap (λ y. y.first) (at_same xs u (with_first (at xs u) x) l)) (λ e. absurd (e d))
-
-  left_first_off : (k : ℕ) → ((k ≡ u → ⊥) ⊎ (q ≡ none → ⊥)) → first_of (cut_left xs u q x) k ≡ first_of xs k
-  left_first_off k d =
-      left_case (λ z. first_of z k ≡ first_of xs k)
-      (λ e. ⊎_elim (λ n. ap (λ y. y.first) (at_other xs u k (with_first (at xs u) x) n)) (λ n. absurd (n e)) d)
-      (λ _. keeps (λ y. y.first) xs q (with_next (at xs q) x) refl k)
-
-  right_case : (P : List Node → Type 0) → (x ≡ none → P (set_last xs u q)) → ((x ≡ none → ⊥) → P (set_prev xs x q)) → P (cut_right xs u q x)
-  right_case P a b = cond_both (eqb x none) (set_last xs u q) (set_prev xs x q) P (λ e. a (eqb-true x none e)) (λ e. b (eqb-false x none e))
-
-  right_keeps : {X : Type 0} (π : Node → X) → ((y : Node) (v : ℕ) → π (with_last y v) ≡ π y) → ((y : Node) (v : ℕ) → π (with_prev y v) ≡ π y)
-      → (k : ℕ) → π (at (cut_right xs u q x) k) ≡ π (at xs k)
-  right_keeps π a b k =
-      right_case (λ z. π (at z k) ≡ π (at xs k)) (λ _. keeps π xs u (with_last (at xs u) q) (a (at xs u) q) k) (λ _. keeps π xs x (with_prev (at xs x) q) (b (at xs x) q) k)
-
-  right_long : length (cut_right xs u q x) ≡ length xs
-  right_long = right_case (λ z. length z ≡ length xs) (λ _. simp length-set) (λ _. simp length-set)
-
-  right_prev : (x ≡ none → ⊥) → x < length xs → prev_of (cut_right xs u q x) x ≡ q
-  right_prev d l = right_case (λ z. prev_of z x ≡ q) (λ e. absurd (d e)) (λ _. ap (λ y. y.prev) (at_same xs x (with_prev (at xs x) q) l))
-
-  right_prev_off : (k : ℕ) → (k ≡ x → ⊥) → prev_of (cut_right xs u q x) k ≡ prev_of xs k
-  right_prev_off k d =
-      right_case (λ z. prev_of z k ≡ prev_of xs k) (λ _. keeps (λ y. y.prev) xs u (with_last (at xs u) q) refl k)
-      (λ _. ap (λ y. y.prev) (at_other xs x k (with_prev (at xs x) q) d))
-
-  right_last : x ≡ none → u < length xs → last_of (cut_right xs u q x) u ≡ q
-  right_last d l = right_case (λ z. last_of z u ≡ q) (λ _. ap (λ y. y.last) (at_same xs u (with_last (at xs u) q) l)) (λ e. absurd (e d))
-
-  right_last_off : (k : ℕ) → ((k ≡ u → ⊥) ⊎ (x ≡ none → ⊥)) → last_of (cut_right xs u q x) k ≡ last_of xs k
-  right_last_off k d =
-      right_case (λ z. last_of z k ≡ last_of xs k)
-      (λ e. ⊎_elim (λ n. ap (λ y. y.last) (at_other xs u k (with_last (at xs u) q) n)) (λ n. absurd (n e)) d)
-      (λ _. keeps (λ y. y.last) xs x (with_prev (at xs x) q) refl k)
-
 module _ (xs : List Node) (c : ℕ) where
-  cut_A : List Node
-  cut_A = cut_left xs (up_of xs c) (prev_of xs c) (next_of xs c)
-
   -- the last write, at c, and the two before it
   pub cut : c < length xs → up_of xs c < length xs → ((prev_of xs c ≡ none → ⊥) → prev_of xs c < length xs) → ((next_of xs c ≡ none → ⊥) → next_of xs c < length xs)
       → (prev_of xs c ≡ c → ⊥) → Cut xs c (unlinked xs c)
@@ -200,16 +129,16 @@ module _ (xs : List Node) (c : ℕ) where
       record {
         long = length-set B c w ∙ len_b;
         own_all = λ k. K (λ x. x.own) refl k ∙ (right_keeps A u q x (λ x. x.own) (λ _ _. refl) (λ _ _. refl) k ∙ left_keeps xs u q x (λ x. x.own) (λ _ _. refl) (λ _ _. refl) k);
-        up_all = λ k. K (λ y. y.parent) refl k ∙ (right_keeps A u q x (λ y. y.parent) (λ _ _. refl) (λ _ _. refl) k ∙ left_keeps xs u q x (λ y. y.parent) (λ _ _. refl) (λ _ _. refl) k);
-        next_c = ap (λ y. y.next) (at_same B c w (omega (arith, len_b)));
-        next_q = λ d. ap (λ y. y.next) (at_other B c q w qc) ∙ (RNext q ∙ left_next xs u q x d (q_in d));
-        next_off = λ k d e. ap (λ y. y.next) (at_other B c k w d) ∙ (RNext k ∙ left_next_off xs u q x k e);
-        prev_x = λ d. K (λ y. y.prev) refl x ∙ right_prev A u q x d (omega (arith, x-in d, left_long xs u q x));
-        prev_off = λ k d. K (λ y. y.prev) refl k ∙ (right_prev_off A u q x k d ∙ left_keeps xs u q x (λ y. y.prev) (λ _ _. refl) (λ _ _. refl) k);
-        first_u = λ d. K (λ y. y.first) refl u ∙ (RFirst u ∙ left_first xs u q x d u_in);
-        first_off = λ k d. K (λ y. y.first) refl k ∙ (RFirst k ∙ left_first_off xs u q x k d);
-        last_u = λ d. K (λ y. y.last) refl u ∙ right_last A u q x d (omega (arith, left_long xs u q x));
-        last_off = λ k d. K (λ y. y.last) refl k ∙ (right_last_off A u q x k d ∙ left_keeps xs u q x (λ y. y.last) (λ _ _. refl) (λ _ _. refl) k);
+        up_all = λ k. K (λ y. y.parent.0) refl k ∙ (right_keeps A u q x (λ y. y.parent.0) (λ _ _. refl) (λ _ _. refl) k ∙ left_keeps xs u q x (λ y. y.parent.0) (λ _ _. refl) (λ _ _. refl) k);
+        next_c = ap (λ y. y.next.0) (at_same B c w (omega (arith, len_b)));
+        next_q = λ d. ap (λ y. y.next.0) (at_other B c q w qc) ∙ (RNext q ∙ left_next xs u q x d (q_in d));
+        next_off = λ k d e. ap (λ y. y.next.0) (at_other B c k w d) ∙ (RNext k ∙ left_next_off xs u q x k e);
+        prev_x = λ d. K (λ y. y.prev.0) refl x ∙ right_prev A u q x d (omega (arith, x-in d, left_long xs u q x));
+        prev_off = λ k d. K (λ y. y.prev.0) refl k ∙ (right_prev_off A u q x k (λ _. d) ∙ left_keeps xs u q x (λ y. y.prev.0) (λ _ _. refl) (λ _ _. refl) k);
+        first_u = λ d. K (λ y. y.first.0) refl u ∙ (RFirst u ∙ left_first xs u q x d u_in);
+        first_off = λ k d. K (λ y. y.first.0) refl k ∙ (RFirst k ∙ left_first_off xs u q x k d);
+        last_u = λ d. K (λ y. y.last.0) refl u ∙ right_last A u q x d (omega (arith, left_long xs u q x));
+        last_off = λ k d. K (λ y. y.last.0) refl k ∙ (right_last_off A u q x k d ∙ left_keeps xs u q x (λ y. y.last.0) (λ _ _. refl) (λ _ _. refl) k);
       }
     where
       u : ℕ
@@ -238,7 +167,7 @@ module _ (xs : List Node) (c : ℕ) where
       K π e k = keeps π (cut_both xs (up_of xs c) (prev_of xs c) (next_of xs c)) c (with_next (at (cut_both xs (up_of xs c) (prev_of xs c) (next_of xs c)) c) none) e k
 
       RNext : (k : ℕ) → next_of (cut_both xs (up_of xs c) (prev_of xs c) (next_of xs c)) k ≡ next_of (cut_left xs (up_of xs c) (prev_of xs c) (next_of xs c)) k
-      RNext k = right_keeps A u q x (λ y. y.next) (λ _ _. refl) (λ _ _. refl) k
+      RNext k = right_keeps A u q x (λ y. y.next.0) (λ _ _. refl) (λ _ _. refl) k
 
       RFirst : (k : ℕ) → first_of (cut_both xs (up_of xs c) (prev_of xs c) (next_of xs c)) k ≡ first_of (cut_left xs (up_of xs c) (prev_of xs c) (next_of xs c)) k
-      RFirst k = right_keeps A u q x (λ y. y.first) (λ _ _. refl) (λ _ _. refl) k
+      RFirst k = right_keeps A u q x (λ y. y.first.0) (λ _ _. refl) (λ _ _. refl) k

@@ -1,9 +1,9 @@
 -- The walk that gives the places of a loose forest back: each turn takes its first node out, and puts that node's children in front of the rest.
-use Rattle.std.proofs.Common.{◌≡◌, ℕ, ◌+◌, ◌<◌, ◌≤◌, true, false, eqb, List, [], ◌∷◌, ◌++◌, length, sym, refl, ap, ◌∙◌, subst, ⊎_elim, append_assoc, append-nil, arith, length-append}
+use Rattle.std.proofs.Common.{◌≡◌, ℕ, ◌+◌, ◌<◌, ◌≤◌, true, false, eqb, List, [], ◌∷◌, ◌++◌, length, Some, None, Option, sym, refl, ap, ◌∙◌, subst, ⊎_elim, append_assoc, append-nil, arith, length-append}
 use Rattle.std.proofs.lemmas.List.{length-set}
-use Rattle.std.proofs.lemmas.Bool.{cases_eq, eq-eqb, ne_eqb, cond-true, cond-false}
+use Rattle.std.proofs.lemmas.Bool.{cases_eq, eq-eqb, ne_eqb, eqb-true, eqb-false, cond_both, cond-true, cond-false}
 use Rattle.forest.specs.Forest.{Forest, end, node, one, count, size, places, head_or, last_or, append}
-use Rattle.forest.specs.Links.{none, Firsts, Lasts}
+use Rattle.forest.specs.Links.{none, target, Firsts, Lasts}
 use Rattle.forest.proofs.Frames.{one_same, one_eq, one_other, nexts_kept, firsts_kept, lasts_kept}
 use Rattle.forest.proofs.Places.{length_places, places_append}
 use Rattle.forest.proofs.Appends.{append_count, append_nexts, append_firsts, append_lasts, last_inside}
@@ -24,7 +24,18 @@ pub record Work (xs0 : List Node) (fr0 : List ℕ) (ts0 : Forest Own) (xs : List
   pub zeros : (j : ℕ) → 0 < count j ts0 → count j todo ≡ 0 → (at xs j).own.number ≡ 0
   pub order : fr ++ places todo ≡ fr0 ++ places ts0
 
-pub work_start : (xs : List Node) (fr : List ℕ) (ts : Forest Own) (k : ℕ) → Loose xs k ts → Work xs fr ts xs fr k
+-- a link that leads nowhere
+leads_off : (k : ℕ) → None ≡ target k → k ≡ none
+leads_off k e =
+    cond_both (eqb k none) None (Some k) (λ z. None ≡ z → k ≡ none) (λ d _. eqb-true k none d) (λ _ q. absurd (grind (arith, q))) e
+
+-- a link that leads to a place is that place
+leads_to : (k p : ℕ) → Some p ≡ target k → (k ≡ p) × (k ≡ none → ⊥)
+leads_to k p e =
+    cond_both (eqb k none) None (Some k) (λ z. Some p ≡ z → (k ≡ p) × (k ≡ none → ⊥)) (λ _ q. absurd (grind (arith, q)))
+    (λ d q. (grind (arith, q), eqb-false k none d)) e
+
+work_start : (xs : List Node) (fr : List ℕ) (ts : Forest Own) (k : ℕ) → Loose xs k ts → Work xs fr ts xs fr k
 work_start xs fr ts k h =
     record {
       todo = ts;
@@ -37,7 +48,7 @@ work_start xs fr ts k h =
     }
 
 module _ (xs0 : List Node) (fr0 : List ℕ) (ts0 : Forest Own) (xs : List Node) (fr : List ℕ) where
-  pub work_end : Work xs0 fr0 ts0 xs fr none → Released xs0 fr0 ts0 xs fr
+  work_end : Work xs0 fr0 ts0 xs fr none → Released xs0 fr0 ts0 xs fr
   work_end w = go w.todo w.loose w.zeros w.order
     where
       go : (us : Forest Own) → Loose xs none us → ((j : ℕ) → 0 < count j ts0 → count j us ≡ 0 → (at xs j).own.number ≡ 0)
@@ -53,9 +64,9 @@ module _ (xs0 : List Node) (fr0 : List ℕ) (ts0 : Forest Own) (xs : List Node) 
         todo = ts;
         loose = record {
           starts = sym L.nexts.0;
-          nexts = nexts_kept (next_of xs) (next_of Y) ts (λ j _. K (λ x. x.next) refl j) L.nexts.2;
-          firsts = firsts_kept (first_of xs) (first_of Y) ts (λ j _. K (λ x. x.first) refl j) L.firsts.2;
-          lasts = lasts_kept (last_of xs) (last_of Y) ts (λ j _. K (λ x. x.last) refl j) L.lasts.2;
+          nexts = nexts_kept (next_of xs) (next_of Y) ts (λ j _. K (λ x. x.next.0) refl j) L.nexts.2;
+          firsts = firsts_kept (first_of xs) (first_of Y) ts (λ j _. K (λ x. x.first.0) refl j) L.firsts.2;
+          lasts = lasts_kept (last_of xs) (last_of Y) ts (λ j _. K (λ x. x.last.0) refl j) L.lasts.2;
           once = λ j. omega (arith, L.once j);
           inside = λ j l. omega (arith, L.inside j (omega arith), len);
           small = omega (arith, L.small, len);
@@ -95,8 +106,8 @@ module _ (xs0 : List Node) (fr0 : List ℕ) (ts0 : Forest Own) (xs : List Node) 
         loose = record {
           starts = refl;
           nexts = append_nexts (next_of xs) (next_of Y) bs ts a j ls (λ m. omega (arith, L.once m))
-              (K (λ x. x.next) refl (last_or bs a) ∙ (ap (λ y. next_of Z y) (sym q_is) ∙ (ap (λ x. x.next) (at_same xs (last_of xs p) v q_in) ∙ L.nexts.0)))
-              (λ m d. K (λ x. x.next) refl m ∙ ap (λ x. x.next) (at_other xs (last_of xs p) m v (λ r. d (r ∙ q_is))))
+              (K (λ x. x.next.0) refl (last_or bs a) ∙ (ap (λ y. next_of Z y) (sym q_is) ∙ (ap (λ x. x.next.0) (at_same xs (last_of xs p) v q_in) ∙ L.nexts.0)))
+              (λ m d. K (λ x. x.next.0) refl m ∙ ap (λ x. x.next.0) (at_other xs (last_of xs p) m v (λ r. d (r ∙ q_is))))
               (omega (arith, L.once (last_or bs a), last_inside a j ls bs none)) L.nexts.1 L.nexts.2;
           firsts = append_firsts (first_of Y) (node a j ls bs) ts (F (node a j ls bs) L.firsts.1) (F ts L.firsts.2);
           lasts = append_lasts (last_of Y) (node a j ls bs) ts (G (node a j ls bs) L.lasts.1) (G ts L.lasts.2);
@@ -154,13 +165,13 @@ module _ (xs0 : List Node) (fr0 : List ℕ) (ts0 : Forest Own) (xs : List Node) 
 
       F : (us : Forest Own) → Firsts (first_of xs) us → Firsts (first_of (cleared (set_next xs (last_of xs p) (next_of xs p)) p)) us
       F us h = firsts_kept (first_of xs) (first_of (cleared (set_next xs (last_of xs p) (next_of xs p)) p)) us
-          (λ m _. K (λ x. x.first) refl m ∙ keeps (λ x. x.first) xs (last_of xs p) (with_next (at xs (last_of xs p)) (next_of xs p)) refl m) h
+          (λ m _. K (λ x. x.first.0) refl m ∙ keeps (λ x. x.first.0) xs (last_of xs p) (with_next (at xs (last_of xs p)) (next_of xs p)) refl m) h
 
       G : (us : Forest Own) → Lasts (last_of xs) us → Lasts (last_of (cleared (set_next xs (last_of xs p) (next_of xs p)) p)) us
       G us h = lasts_kept (last_of xs) (last_of (cleared (set_next xs (last_of xs p) (next_of xs p)) p)) us
-          (λ m _. K (λ x. x.last) refl m ∙ keeps (λ x. x.last) xs (last_of xs p) (with_next (at xs (last_of xs p)) (next_of xs p)) refl m) h
+          (λ m _. K (λ x. x.last.0) refl m ∙ keeps (λ x. x.last.0) xs (last_of xs p) (with_next (at xs (last_of xs p)) (next_of xs p)) refl m) h
 
-  pub work_more : (k : ℕ) → Work xs0 fr0 ts0 xs fr k → (k ≡ none → ⊥) → Work xs0 fr0 ts0 (cleared (spliced xs k) k) (fr ++ k ∷ []) (afterwards xs k)
+  work_more : (k : ℕ) → Work xs0 fr0 ts0 xs fr k → (k ≡ none → ⊥) → Work xs0 fr0 ts0 (cleared (spliced xs k) k) (fr ++ k ∷ []) (afterwards xs k)
   work_more k w d = go w.todo refl
     where
       go : (us : Forest Own) → w.todo ≡ us → Work xs0 fr0 ts0 (cleared (spliced xs k) k) (fr ++ k ∷ []) (afterwards xs k)
@@ -182,23 +193,15 @@ module _ (xs0 : List Node) (fr0 : List ℕ) (ts0 : Forest Own) (xs : List Node) 
           (subst (λ y. Work xs0 fr0 ts0 (cleared (set_next xs (last_of xs k) (next_of xs k)) k) (fr ++ k ∷ []) y)
           (sym (cond-false (eqb (first_of xs k) none) (next_of xs k) (first_of xs k) t ∙ L.firsts.0)) (step_deep k i a j ls bs ts w e'))
 
-  -- the same of a table, a stack and a place that are what a turn makes
-  pub work_on : (k : ℕ) → Work xs0 fr0 ts0 xs fr k → (k ≡ none → ⊥) → (ys : List Node) (more : List ℕ) (j : ℕ)
-      → ys ≡ cleared (spliced xs k) k → more ≡ fr ++ k ∷ [] → j ≡ afterwards xs k → Work xs0 fr0 ts0 ys more j
-  work_on k w d ys more j a b c =
-      subst (λ y. Work xs0 fr0 ts0 y more j) (sym a)
-      (subst (λ y. Work xs0 fr0 ts0 (cleared (spliced xs k) k) y j) (sym b)
-      (subst (λ y. Work xs0 fr0 ts0 (cleared (spliced xs k) k) (fr ++ k ∷ []) y) (sym c) (work_more k w d)))
-
   -- what a turn of the walk asks
-  pub work_in : (k : ℕ) → Work xs0 fr0 ts0 xs fr k → (k ≡ none → ⊥) → k < length xs
+  work_in : (k : ℕ) → Work xs0 fr0 ts0 xs fr k → (k ≡ none → ⊥) → k < length xs
   work_in k w d = go w.todo w.loose
     where
       go : (us : Forest Own) → Loose xs k us → k < length xs
       go end l = absurd (d (sym l.starts))
       go (node p i ks ts) l = l.inside k (omega (arith, one_eq p k l.starts))
 
-  pub work_last : (k : ℕ) → Work xs0 fr0 ts0 xs fr k → (k ≡ none → ⊥) → (first_of xs k ≡ none → ⊥) → last_of xs k < length xs
+  work_last : (k : ℕ) → Work xs0 fr0 ts0 xs fr k → (k ≡ none → ⊥) → (first_of xs k ≡ none → ⊥) → last_of xs k < length xs
   work_last k w d f = go w.todo w.loose
     where
       go : (us : Forest Own) → Loose xs k us → last_of xs k < length xs
@@ -207,10 +210,55 @@ module _ (xs0 : List Node) (fr0 : List ℕ) (ts0 : Forest Own) (xs : List Node) 
       go (node p i (node a j ls bs) ts) l =
           subst (λ y. y < length xs) (sym (ap (last_of xs) (sym l.starts) ∙ l.lasts.0)) (l.inside (last_or bs a) (omega (arith, last_inside a j ls bs none)))
 
-  pub work_room : (k : ℕ) → Work xs0 fr0 ts0 xs fr k → (k ≡ none → ⊥) → length fr < length fr0 + size ts0
+  work_room : (k : ℕ) → Work xs0 fr0 ts0 xs fr k → (k ≡ none → ⊥) → length fr < length fr0 + size ts0
   work_room k w d = go w.todo w.loose w.order
     where
       go : (us : Forest Own) → Loose xs k us → fr ++ places us ≡ fr0 ++ places ts0 → length fr < length fr0 + size ts0
       go end l m = absurd (d (sym l.starts))
       go (node p i ks ts) l m =
           omega (arith, ap length m, length-append fr (places (node p i ks ts)), length_places (node p i ks ts), length-append fr0 (places ts0), length_places ts0)
+
+-- a walk under way, and its next step
+pub record Walk (xs0 : List Node) (fr0 : List ℕ) (ts0 : Forest Own) (xs : List Node) (fr : List ℕ) (step : Option ℕ) : Type 0 where
+  pub place : ℕ
+  pub leads : step ≡ target place
+  pub work : Work xs0 fr0 ts0 xs fr place
+
+pub walk_start : (xs : List Node) (fr : List ℕ) (ts : Forest Own) (k : ℕ) (step : Option ℕ) → Loose xs k ts → step ≡ target k → Walk xs fr ts xs fr step
+walk_start xs fr ts k step h e = record { place = k; leads = e; work = work_start xs fr ts k h }
+
+module _ (xs0 : List Node) (fr0 : List ℕ) (ts0 : Forest Own) (xs : List Node) (fr : List ℕ) (step : Option ℕ) (w : Walk xs0 fr0 ts0 xs fr step) where
+  pub walk_end : step ≡ None → Released xs0 fr0 ts0 xs fr
+  walk_end e = work_end xs0 fr0 ts0 xs fr (subst (λ k. Work xs0 fr0 ts0 xs fr k) (leads_off w.place (sym e ∙ w.leads)) w.work)
+
+  module _ (p : ℕ) (e : step ≡ Some p) where
+    -- the walk stands at p
+    to : (w.place ≡ p) × (w.place ≡ none → ⊥)
+    to = leads_to w.place p (sym e ∙ w.leads)
+
+    ne : p ≡ none → ⊥
+    ne z = to.1 (to.0 ∙ z)
+
+    here : Work xs0 fr0 ts0 xs fr p
+    here = subst (λ k. Work xs0 fr0 ts0 xs fr k) to.0 w.work
+
+    -- what a turn of the walk asks
+    pub walk_in : p < length xs
+    walk_in = work_in xs0 fr0 ts0 xs fr p here ne
+
+    pub walk_last : (first_of xs p ≡ none → ⊥) → last_of xs p < length xs
+    walk_last f = work_last xs0 fr0 ts0 xs fr p here ne f
+
+    pub walk_room : length fr < length fr0 + size ts0
+    walk_room = work_room xs0 fr0 ts0 xs fr p here ne
+
+    -- the walk goes on from the table, the stack and the step that a turn makes
+    pub walk_on : (ys : List Node) (more : List ℕ) (next : Option ℕ) → ys ≡ cleared (spliced xs p) p → more ≡ fr ++ p ∷ [] → next ≡ target (afterwards xs p)
+        → Walk xs0 fr0 ts0 ys more next
+    walk_on ys more next a b c =
+        record {
+          place = afterwards xs p;
+          leads = c;
+          work = subst (λ y. Work xs0 fr0 ts0 y more (afterwards xs p)) (sym a)
+              (subst (λ y. Work xs0 fr0 ts0 (cleared (spliced xs p) p) y (afterwards xs p)) (sym b) (work_more xs0 fr0 ts0 xs fr p here ne));
+        }

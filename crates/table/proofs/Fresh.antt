@@ -1,6 +1,5 @@
 -- A new table: the root at the place 0, and every other place free.
-use Rattle.std.proofs.Common.{◌≡◌, ℕ, zero, suc, ◌+◌, ◌-◌, ◌<◌, ◌≤◌, List, [], ◌∷◌, ◌++◌, reverse, length, set, replicate, sym, refl, ap, ◌∙◌, subst, ⊎_elim, arith}
-use mathlib.Core.List.{reverse-append}
+use Rattle.std.proofs.Common.{◌≡◌, ℕ, zero, suc, ◌+◌, ◌-◌, ◌<◌, ◌≤◌, List, [], reverse, length, set, replicate, sym, refl, ap, ◌∙◌, subst, ⊎_elim, arith}
 use Rattle.std.proofs.lemmas.List.{length-set, length-replicate, length-reverse}
 use Rattle.std.proofs.lemmas.Bool.{cases_eq}
 use Rattle.std.proofs.lemmas.Bool.Decides.{nat_tests}
@@ -15,22 +14,6 @@ use Rattle.table.specs.Sound.{Sound, Good, within}
 use Rattle.table.specs.Tables.{run}
 use Rattle.table.proofs.Writes.{at_same, at_other, within_le}
 use Rattle.table.proofs.Goods.{sound_good}
-
--- the stack, as it grows from the highest place down
-pub stack_none : (n : ℕ) (xs : List ℕ) → xs ≡ [] → reverse xs ≡ run n (n - n)
-stack_none n xs e = let z : n - n ≡ 0 = omega arith in ap reverse e ∙ ap (λ m. run n m) (sym z)
-
-pub stack_more : (n k : ℕ) (xs ys : List ℕ) → 1 < k → k ≤ n → reverse xs ≡ run k (n - k) → ys ≡ xs ++ (k - 1) ∷ []
-    → reverse ys ≡ run (k - 1) (n - (k - 1))
-stack_more n k xs ys l m e f =
-    let a : suc (n - k) ≡ n - (k - 1) = omega arith in
-    let b : k ≡ (k - 1) + 1 = omega arith in
-    ap reverse f
-    ∙ (reverse-append xs ((k - 1) ∷ [])
-    ∙ (ap (λ z. (k - 1) ∷ z) e ∙ (ap (λ z. (k - 1) ∷ run z (n - k)) b ∙ ap (λ z. run (k - 1) z) a)))
-
-pub stack_all : (n k : ℕ) (xs : List ℕ) → k ≡ 1 → reverse xs ≡ run k (n - k) → reverse xs ≡ run 1 (n - 1)
-stack_all n k xs e h = h ∙ ap (λ z. run z (n - z)) e
 
 within_more : (j k : ℕ) → within j k + one k j ≡ within j (k + 1)
 within_more j k = grind (arith, nat_tests)
@@ -77,11 +60,11 @@ module _ (n : ℕ) (i : Own) (fs : List ℕ) (some : 0 < n) (few : n ≤ none) (
       record {
         holds = record {
           owns = (ap (λ x. x.own) at_root, tt, tt);
-          ups = (ap (λ x. x.parent) at_root, tt, tt);
-          prevs = (ap (λ x. x.prev) at_root, tt, tt);
-          nexts = (ap (λ x. x.next) at_root, tt, tt);
-          firsts = (ap (λ x. x.first) at_root, tt, tt);
-          lasts = (ap (λ x. x.last) at_root, tt, tt);
+          ups = (ap (λ x. x.parent.0) at_root, tt, tt);
+          prevs = (ap (λ x. x.prev.0) at_root, tt, tt);
+          nexts = (ap (λ x. x.next.0) at_root, tt, tt);
+          firsts = (ap (λ x. x.first.0) at_root, tt, tt);
+          lasts = (ap (λ x. x.last.0) at_root, tt, tt);
         };
         starts = refl;
         stops = refl;

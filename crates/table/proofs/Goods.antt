@@ -2,16 +2,15 @@
 use Rattle.std.proofs.Common.{◌≡◌, ℕ, ◌+◌, ◌<◌, ◌≤◌, List, [], ◌∷◌, ◌++◌, length, sym, ap, ◌∙◌, subst, append-nil, arith}
 use Rattle.forest.specs.Forest.{Forest, count, size, places}
 use Rattle.forest.specs.Edits.{ins_after, ins_first, delete, kids, family}
-use Rattle.forest.specs.Links.{none}
 use Rattle.table.specs.declared.node.Own.{Own}
 use Rattle.table.specs.declared.node.Node.{Node}
-use Rattle.table.specs.Nodes.{forest_at, up_of, next_of, first_of}
+use Rattle.table.specs.Nodes.{forest_at}
 use Rattle.table.specs.Writes.{link_after, link_first, unlinked}
 use Rattle.table.specs.Sound.{Sound, Good, Loose, Released}
 use Rattle.table.proofs.ReadBack.{sound_read}
-use Rattle.table.proofs.Roots.{up_there}
-use Rattle.table.proofs.After.{after_sound, after_up, after_next, all_once, in_table, no_none, top_within, link_length, not_top}
-use Rattle.table.proofs.First.{first_sound, first_there, is_headed}
+use Rattle.table.proofs.Standing.{all_in}
+use Rattle.table.proofs.After.{after_sound, top_within, link_length, not_top}
+use Rattle.table.proofs.First.{first_sound, is_headed}
 use Rattle.table.proofs.Removes.{is_cut, loose_read, loose_size, is_loose, remove_sound}
 
 -- a sound table's forest is the one that is read back
@@ -30,14 +29,8 @@ module _ (xs : List Node) (fs : List ℕ) (n s room : ℕ) (all : List ℕ) (top
   S : Sound xs (fs ++ n ∷ []) (forest_at xs 0)
   S = subst (λ y. Sound xs y (forest_at xs 0)) top g.sound
 
-  pub node_in : (k : ℕ) → 0 < count k (forest_at xs 0) → k < length xs
-  node_in k l = in_table xs fs n s (forest_at xs 0) S c k l
-
   pub top_in : n < length xs
   top_in = top_within xs fs n s (forest_at xs 0) S c
-
-  pub first_in_lem : (first_of xs s ≡ none → ⊥) → first_of xs s < length xs
-  first_in_lem d = node_in (first_of xs s) (first_there xs fs n s (forest_at xs 0) S c d)
 
   pub first_good : (i : Own) → (i.number ≡ 0 → ⊥) → (ys : List Node) → ys ≡ link_first xs s n i
       → Good ys fs room × (forest_at ys 0 ≡ ins_first s n i (forest_at xs 0))
@@ -47,23 +40,12 @@ module _ (xs : List Node) (fs : List ℕ) (n s room : ℕ) (all : List ℕ) (top
       (omega (arith, g.roomy, (is_headed xs fs n s (forest_at xs 0) S c i).long)))
 
   module _ (r : s ≡ 0 → ⊥) where
-    inner : up_of xs s ≡ none → ⊥
-    inner =
-        up_there (up_of xs) s (forest_at xs 0) (all_once xs fs n s (forest_at xs 0) S c) (no_none xs fs n s (forest_at xs 0) S c) S.starts S.stops S.holds.ups
-        (omega (arith, all_once xs fs n s (forest_at xs 0) S c s)) r
-
-    pub up_in : up_of xs s < length xs
-    up_in = node_in (up_of xs s) (after_up xs fs n s (forest_at xs 0) S c inner)
-
-    pub next_in_lem : (next_of xs s ≡ none → ⊥) → next_of xs s < length xs
-    next_in_lem d = node_in (next_of xs s) (after_next xs fs n s (forest_at xs 0) S c d)
-
     pub after_good : (i : Own) → (i.number ≡ 0 → ⊥) → (ys : List Node) → ys ≡ link_after xs s n i
         → Good ys fs room × (forest_at ys 0 ≡ ins_after s n i (forest_at xs 0))
     after_good i nz ys e =
         subst (λ y. Good y fs room × (forest_at y 0 ≡ ins_after s n i (forest_at xs 0))) (sym e)
-        (sound_good (link_after xs s n i) fs (ins_after s n i (forest_at xs 0)) room (after_sound xs fs n s (forest_at xs 0) S c i nz inner)
-        (omega (arith, g.roomy, link_length xs s n i (node_in s c) top_in (λ e. not_top xs fs n s (forest_at xs 0) S c s c (sym e)))))
+        (sound_good (link_after xs s n i) fs (ins_after s n i (forest_at xs 0)) room (after_sound xs fs n s (forest_at xs 0) S c i nz r)
+        (omega (arith, g.roomy, link_length xs s n i (all_in xs (fs ++ n ∷ []) (forest_at xs 0) S s c) top_in (λ e. not_top xs fs n s (forest_at xs 0) S c s c (sym e)))))
 
 -- without the node c, which is cut off and then given back
 module _ (xs : List Node) (fs : List ℕ) (room c : ℕ) (g : Good xs fs room) (o : 0 < count c (forest_at xs 0)) (r : c ≡ 0 → ⊥) (ys : List Node) (e : ys ≡ unlinked xs c) where

@@ -1,4 +1,6 @@
 pub mod Writes
+pub mod Standing
+pub mod Sides
 pub mod After
 pub mod First
 pub mod Roots

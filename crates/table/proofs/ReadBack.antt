@@ -1,6 +1,6 @@
 -- The forest that a table stands for is read back from it.
-use Rattle.std.proofs.Common.{◌≡◌, ℕ, zero, suc, ◌≤◌, eqb, List, length, refl, ap, ◌∙◌, ⊎_elim, arith}
-use Rattle.std.proofs.lemmas.Bool.{ne_eqb, cond-false, cases_lt}
+use Rattle.std.proofs.Common.{◌≡◌, ℕ, zero, suc, ◌≤◌, eqb, List, length, refl, ap, ◌∙◌, arith}
+use Rattle.std.proofs.lemmas.Bool.{ne_eqb, cond-false}
 use Rattle.forest.specs.Forest.{Forest, end, node, count, size, head_or}
 use Rattle.forest.specs.Links.{none, Owns, Nexts, Firsts}
 use Rattle.forest.proofs.Frames.{one_eq}
@@ -8,7 +8,7 @@ use Rattle.table.specs.declared.node.Own.{Own}
 use Rattle.table.specs.declared.node.Node.{Node}
 use Rattle.table.specs.Nodes.{own_of, next_of, first_of, read}
 use Rattle.table.specs.Sound.{Sound}
-use Rattle.table.proofs.Writes.{lt_within}
+use Rattle.table.proofs.Standing.{none_out}
 
 pub read_back : (xs : List Node) (n : ℕ) (ts : Forest Own) → size ts ≤ n → count none ts ≡ 0
     → Owns (own_of xs) ts → Firsts (first_of xs) ts → Nexts (next_of xs) ts → read xs n (head_or ts none) ≡ ts
@@ -24,5 +24,5 @@ read_back xs (suc n) (node p j ks ts) l z i f x =
 pub sound_read : (xs : List Node) (free : List ℕ) (ts : Forest Own) → Sound xs free ts → read xs (length xs) (head_or ts none) ≡ ts
 sound_read xs free ts h =
     read_back xs (length xs) ts (omega (arith, h.sized))
-    (⊎_elim (λ l. absurd (omega (arith, lt_within none (length xs) (omega (arith, h.once none)), h.small))) (λ l. omega arith) (cases_lt 0 (count none ts)))
+    (none_out xs free ts h)
     h.holds.owns h.holds.firsts h.holds.nexts

@@ -1,6 +1,7 @@
 -- What a table's ghost field says of its tree and its free places, and of the links that are read.
-use Rattle.std.proofs.Common.{◌≡◌, ℕ, ◌+◌, ◌<◌, ◌≤◌, Bool, true, false, eqb, length, get_or, Some, None, vec_items, vec_len, vec_capacity, Option, sym, refl, ap, ◌∙◌, subst, ⊎_elim, arith}
-use Rattle.std.proofs.lemmas.List.{get_or_default, length-reverse}
+use Rattle.std.proofs.Common.{◌≡◌, ℕ, ◌+◌, ◌<◌, ◌≤◌, Bool, true, false, eqb, List, length, get_or, Some, None, vec_items, vec_len, vec_capacity, Option, sym, refl, ap, ◌∙◌, subst, ⊎_elim, arith}
+use Rattle.std.specs.Vec.{with_items}
+use Rattle.std.proofs.lemmas.List.{get_or_default, length-reverse, with_items_is}
 use Rattle.std.proofs.lemmas.Bool.{cases_lt, ne_eqb, both_ways}
 use Rattle.forest.specs.Forest.{Forest, end, node, count, size, occurs, Distinct}
 use Rattle.forest.specs.Links.{none, target}
@@ -14,10 +15,11 @@ use Rattle.forest.proofs.Told.{own_told, own_none, up_told, prev_told, next_told
 use Rattle.table.specs.declared.node.Own.{Own}
 use Rattle.table.specs.declared.node.Node.{Node}
 use Rattle.table.specs.declared.table.Table.{Table}
-use Rattle.table.specs.Nodes.{at, blank, own_of, up_of, prev_of, next_of, first_of, last_of}
+use Rattle.table.specs.Nodes.{at, blank, own_of, up_of, prev_of, next_of, first_of, last_of, forest_at}
 use Rattle.table.specs.Sound.{Sound, Good, within}
 use Rattle.table.specs.Tables.{tree, free, records, holds_in}
 use Rattle.table.proofs.Writes.{within_le, within_lt, lt_within}
+use Rattle.table.proofs.Standing.{none_out}
 use Rattle.table.proofs.Roots.{one_root}
 use Rattle.table.proofs.Props.{held}
 
@@ -66,7 +68,23 @@ module _ (t : Table) where
       go (i, (ks, e)) = omega (arith, ap (λ z. count 0 z) e)
 
   no_none : count none (tree t) ≡ 0
-  no_none = ⊎_elim (λ l. absurd (omega (arith, tree_free none, lt_within none (records t) (omega (arith, tree_free none)), records_few))) (λ l. omega arith) (cases_lt 0 (count none (tree t)))
+  no_none = none_out (vec_items t.nodes) (vec_items t.spare) (tree t) sound
+
+  -- the same of the records as they are lent
+  module _ (xs : List Node) (e : xs ≡ vec_items t.nodes) where
+    pub good_of : Good xs (vec_items t.spare) (vec_capacity t.spare)
+    good_of = subst (λ y. Good y (vec_items t.spare) (vec_capacity t.spare)) (sym e) good
+
+    pub tree_of : forest_at xs 0 ≡ tree t
+    unfolding tree
+    tree_of = ap (λ y. forest_at y 0) e
+
+    pub there_of : (k : ℕ) → 0 < count k (tree t) → 0 < count k (forest_at xs 0)
+    there_of k c = omega (arith, c, ap (λ y. count k y) tree_of)
+
+    -- as many records written back are those
+    pub written_of : (ys : List Node) → length ys ≡ length xs → vec_items (with_items t.nodes ys) ≡ ys
+    written_of ys l = with_items_is t.nodes ys (omega (arith, l, ap (λ y. length y) e, nodes_long))
 
   -- a node of the tree
   module _ (k : ℕ) (c : 0 < count k (tree t)) where
@@ -77,30 +95,24 @@ module _ (t : Table) where
     unfolding records
     there_in = lt_within k (records t) (omega (arith, tree_free k))
 
-    -- its record, as it is read
-    module _ (x : Node) (e : x ≡ get_or (vec_items t.nodes) k x) where
-      there_at : x ≡ at (vec_items t.nodes) k
-      there_at = e ∙ get_or_default (vec_items t.nodes) k x blank (omega (arith, there_in, nodes_long))
+    -- its record is what its position says
+    pub own_is : Some (own_of (vec_items t.nodes) k) ≡ own_in k (tree t)
+    own_is = own_told (own_of (vec_items t.nodes)) k (tree t) there_once sound.holds.owns
 
-      pub own_is : Some x.own ≡ own_in k (tree t)
-      own_is = ap (λ y. Some y.own) there_at ∙ own_told (own_of (vec_items t.nodes)) k (tree t) there_once sound.holds.owns
+    pub parent_is : target (up_of (vec_items t.nodes) k) ≡ parent_in k None (tree t)
+    parent_is = up_told (up_of (vec_items t.nodes)) k none None (tree t) refl no_none there_once sound.holds.ups
 
-      pub parent_is : target x.parent ≡ parent_in k None (tree t)
-      parent_is =
-          ap (λ y. target y.parent) there_at ∙ up_told (up_of (vec_items t.nodes)) k none None (tree t) refl no_none there_once sound.holds.ups
+    pub prev_is : target (prev_of (vec_items t.nodes) k) ≡ prev_in k None (tree t)
+    prev_is = prev_told (prev_of (vec_items t.nodes)) k none None (tree t) refl no_none there_once sound.holds.prevs
 
-      pub prev_is : target x.prev ≡ prev_in k None (tree t)
-      prev_is =
-          ap (λ y. target y.prev) there_at ∙ prev_told (prev_of (vec_items t.nodes)) k none None (tree t) refl no_none there_once sound.holds.prevs
+    pub next_is : target (next_of (vec_items t.nodes) k) ≡ next_in k (tree t)
+    next_is = next_told (next_of (vec_items t.nodes)) k (tree t) no_none there_once sound.holds.nexts
 
-      pub next_is : target x.next ≡ next_in k (tree t)
-      next_is = ap (λ y. target y.next) there_at ∙ next_told (next_of (vec_items t.nodes)) k (tree t) no_none there_once sound.holds.nexts
+    pub first_is : target (first_of (vec_items t.nodes) k) ≡ first_in k (tree t)
+    first_is = first_told (first_of (vec_items t.nodes)) k (tree t) no_none there_once sound.holds.firsts
 
-      pub first_is : target x.first ≡ first_in k (tree t)
-      first_is = ap (λ y. target y.first) there_at ∙ first_told (first_of (vec_items t.nodes)) k (tree t) no_none there_once sound.holds.firsts
-
-      pub last_is : target x.last ≡ last_in k (tree t)
-      last_is = ap (λ y. target y.last) there_at ∙ last_told (last_of (vec_items t.nodes)) k (tree t) no_none there_once sound.holds.lasts
+    pub last_is : target (last_of (vec_items t.nodes) k) ≡ last_in k (tree t)
+    last_is = last_told (last_of (vec_items t.nodes)) k (tree t) no_none there_once sound.holds.lasts
 
     -- the sibling before it is a node of the tree, with an index one less
     pub index_before : (x : ℕ) → prev_in k None (tree t) ≡ Some x → (0 < count x (tree t)) × (index_in k 0 (tree t) ≡ index_in x 0 (tree t) + 1)
@@ -129,7 +141,7 @@ module _ (t : Table) where
     last_inner s e = (last_below s e).1
 
     pub own_at : own_in k (tree t) ≡ Some (own_of (vec_items t.nodes) k)
-    own_at = sym (own_told (own_of (vec_items t.nodes)) k (tree t) there_once sound.holds.owns)
+    own_at = sym own_is
 
     pub own_live : (o : Own) → own_in k (tree t) ≡ Some o → o.number ≡ 0 → ⊥
     own_live o e z = sound.live k c (ap (λ y. y.number) q ∙ z)

@@ -3,12 +3,17 @@ use Rattle.std.specs.Prelude.{ℕ, zero, suc, cond, List, length, ◌==◌, slic
 use Rattle.forest.specs.Forest.{Forest, end, node}
 use Rattle.forest.specs.Links.{none}
 use Rattle.table.specs.declared.kind.Kind.TheVariants.{Null}
+use Rattle.table.specs.declared.link.Link.{Link}
 use Rattle.table.specs.declared.node.Own.{Own}
 use Rattle.table.specs.declared.node.Node.{Node}
 
+-- the link to a place
+abbrev pub to : ℕ → Link
+to k = record { 0 = k }
+
 -- a record with its links and no children
 abbrev pub leaf : Own → ℕ → ℕ → ℕ → Node
-leaf i u q x = record { own = i; parent = u; prev = q; next = x; first = none; last = none }
+leaf i u q x = record { own = i; parent = to u; prev = to q; next = to x; first = to none; last = to none }
 
 -- what a free place holds at the start
 abbrev pub blank : Node
@@ -24,23 +29,23 @@ own_of xs k = (at xs k).own
 
 -- the link to the parent
 abbrev pub up_of : List Node → ℕ → ℕ
-up_of xs k = (at xs k).parent
+up_of xs k = (at xs k).parent.0
 
 -- the link to the sibling before
 abbrev pub prev_of : List Node → ℕ → ℕ
-prev_of xs k = (at xs k).prev
+prev_of xs k = (at xs k).prev.0
 
 -- the link to the sibling after
 abbrev pub next_of : List Node → ℕ → ℕ
-next_of xs k = (at xs k).next
+next_of xs k = (at xs k).next.0
 
 -- the link to the first child
 abbrev pub first_of : List Node → ℕ → ℕ
-first_of xs k = (at xs k).first
+first_of xs k = (at xs k).first.0
 
 -- the link to the last child
 abbrev pub last_of : List Node → ℕ → ℕ
-last_of xs k = (at xs k).last
+last_of xs k = (at xs k).last.0
 
 -- the forest that the links lead to from a place, with at most fuel nodes on each way
 abbrev pub read : List Node → ℕ → ℕ → Forest Own

@@ -3,6 +3,7 @@ ghost use Rattle.forest.specs.Forest.{count};
 ghost use Rattle.forest.specs.Edits.{ins_after, ins_first, ins_last, delete, family};
 ghost use Rattle.table.specs.Tables.{tree, free};
 
+use crate::link::Link;
 use crate::links::{link_after, link_first, unlink};
 use crate::node::{Own, Place};
 use crate::release::release;
@@ -67,7 +68,8 @@ impl Table {
         ensures forest { tree self.new ≡ delete place (tree self.old) }
         ensures given { free self.new ≡ reverse (family place (tree self.old)) ++ free self.old }
     {
-        unlink(&mut self.nodes, place);
-        release(&mut self.nodes, &mut self.spare, place);
+        let nodes = self.nodes.as_mut_slice();
+        unlink(nodes, place);
+        release(nodes, &mut self.spare, Link::to(place));
     }
 }

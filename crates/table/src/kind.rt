@@ -1,10 +1,4 @@
-/// What ends a line.
-#[derive(Clone, Copy)]
-pub enum NewlineKind {
-    LineFeed,
-    CarriageReturn,
-    CarriageReturnLineFeed,
-}
+use line_break::NewlineKind;
 
 /// What a node is, with what a leaf of that kind needs besides its bytes.
 #[derive(Clone, Copy)]

@@ -9,12 +9,14 @@ mod asks;
 mod changes;
 mod edits;
 mod kind;
+mod link;
 mod links;
 mod node;
 mod release;
 mod start;
 mod table;
 
-pub use kind::{Kind, NewlineKind};
+pub use kind::Kind;
+pub use line_break::NewlineKind;
 pub use node::{Handle, Own, Place};
 pub use table::{NoTable, Table};

@@ -1,10 +1,11 @@
+ghost use Rattle.std.specs.Prelude.{◌≡◌};
+ghost use Rattle.table.specs.Nodes.{leaf};
+
 use crate::kind::Kind;
+use crate::link::Link;
 
 /// Where a node stands in the table.
 pub type Place = u16;
-
-/// The link that leads nowhere: a table has at most 65,535 records, so this is no place.
-pub const NONE: Place = 65_535;
 
 /// A node's own data: its number, its kind, and where its bytes stand in the text store.
 #[derive(Clone, Copy)]
@@ -26,9 +27,25 @@ pub struct Handle {
 #[derive(Clone, Copy)]
 pub struct Node {
     pub own: Own,
-    pub parent: Place,
-    pub prev: Place,
-    pub next: Place,
-    pub first: Place,
-    pub last: Place,
+    pub parent: Link,
+    pub prev: Link,
+    pub next: Link,
+    pub first: Link,
+    pub last: Link,
+}
+
+impl Node {
+    /// A record that leads nowhere.
+    pub fn alone(own: Own) -> Node
+        ensures { result ≡ leaf own 65535 65535 65535 }
+    {
+        Node {
+            own,
+            parent: Link::NOWHERE,
+            prev: Link::NOWHERE,
+            next: Link::NOWHERE,
+            first: Link::NOWHERE,
+            last: Link::NOWHERE,
+        }
+    }
 }

@@ -3,7 +3,7 @@ ghost use Rattle.table.specs.Nodes.{blank, leaf};
 ghost use Rattle.table.specs.Tables.{run, Started};
 
 use crate::kind::Kind;
-use crate::node::{NONE, Node, Own, Place};
+use crate::node::{Node, Own, Place};
 use crate::table::{NoTable, Table};
 use std::alloc::{AllocError, Global};
 
@@ -18,20 +18,13 @@ fn fresh_nodes(heap: Global, records: usize, root: Own) -> Result<Vec<Node>, All
         start: 0,
         len: 0,
     };
-    let free = Node {
-        own: nobody,
-        parent: NONE,
-        prev: NONE,
-        next: NONE,
-        first: NONE,
-        last: NONE,
-    };
-    let mut nodes = vec![in heap; free; records]?;
-    nodes[0] = Node { own: root, ..free };
+    let mut nodes = vec![in heap; Node::alone(nobody); records]?;
+    nodes[0] = Node::alone(root);
     Ok(nodes)
 }
 
-/// The stack of all places but the root's, the lowest on top.
+/// The stack of all places but the root's, the lowest on top. They are pushed one by one, since no lemma of the library says what
+/// a range from the back gives to `extend`.
 fn fresh_stack(heap: Global, records: usize) -> Result<Vec<Place>, AllocError>
     requires some { 0 < records }
     requires few { records ≤ 65535 }
@@ -57,17 +50,11 @@ impl Table {
         requires { root.number ≢ 0 }
         ensures { Started records root result }
     {
-        if records == 0 || records > 65_535 {
+        if !(1..=65_535).contains(&records) {
             return Err(NoTable::Size);
         }
-        let nodes = match fresh_nodes(heap, records, root) {
-            Ok(nodes) => nodes,
-            Err(_) => return Err(NoTable::Memory),
-        };
-        let spare = match fresh_stack(heap, records) {
-            Ok(spare) => spare,
-            Err(_) => return Err(NoTable::Memory),
-        };
+        let nodes = fresh_nodes(heap, records, root)?;
+        let spare = fresh_stack(heap, records)?;
         Ok(Table { nodes, spare })
     }
 }

@@ -1,7 +1,9 @@
-ghost use Rattle.std.specs.Prelude.{vec_capacity};
+ghost use Rattle.std.specs.Prelude.{◌≡◌, vec_capacity};
 ghost use Rattle.table.specs.Sound.{Good};
+ghost use Rattle.table.specs.declared.table.NoTable.TheVariants.{Memory};
 
 use crate::node::{Node, Place};
+use std::alloc::AllocError;
 
 /// A table of nodes, and the stack of its free places. The root stands at the place 0.
 #[derive(Drop)]
@@ -18,4 +20,12 @@ pub enum NoTable {
     Size,
     /// There is not enough memory.
     Memory,
+}
+
+impl From<AllocError> for NoTable {
+    ghost from_gives = { λ _ error. error ≡ Memory };
+
+    fn from(_: AllocError) -> NoTable {
+        NoTable::Memory
+    }
 }

@@ -21,23 +21,6 @@ pub struct Around {
     pub index: usize,
 }
 
-/// The fields of `Around` in a row.
-pub fn facts(
-    text: (u32, u32),
-    parent: Option<Place>,
-    beside: (Option<Place>, Option<Place>),
-    below: (Option<Place>, Option<Place>),
-    index: usize,
-) -> Around {
-    Around {
-        text,
-        parent,
-        beside,
-        below,
-        index,
-    }
-}
-
 /// Own data with a number, and ten bytes for each number before it in the store.
 fn numbered(number: u32) -> Own
     requires some { number ≢ 0 }
@@ -66,22 +49,18 @@ pub fn started(heap: Global, records: usize) -> Result<Table, NoTable> {
     )
 }
 
-/// What no table holds.
-pub const NOBODY: Handle = Handle {
-    place: 0,
-    number: 0,
-};
-
-/// Puts in a node with that number, if the handle's node is there and a place is free, and answers with its handle.
-pub fn put(table: &mut Table, spot: Spot, at: Handle, number: u32) -> Handle {
+/// Puts in a node with that number, if the handle's node is there and a place is free, and answers with its handle. Nothing goes
+/// after the root.
+#[tactic(auto, using(table::proofs::Seen::holds_there))]
+pub fn put(table: &mut Table, spot: Spot, at: Handle, number: u32) -> Option<Handle> {
     if number == 0 || number >= 1000 {
-        return NOBODY;
+        return None;
     }
     if table.vacant() == 0 {
-        return NOBODY;
+        return None;
     }
     if !table.holds(at) {
-        return NOBODY;
+        return None;
     }
     let own = numbered(number);
     let place = match spot {
@@ -89,15 +68,16 @@ pub fn put(table: &mut Table, spot: Spot, at: Handle, number: u32) -> Handle {
         Spot::Last => table.append(at.place, own),
         Spot::After => {
             if at.place == 0 {
-                return NOBODY;
+                return None;
             }
             table.insert_after(at.place, own)
         }
     };
-    Handle { place, number }
+    Some(Handle { place, number })
 }
 
 /// Removes the handle's node, if it is there and not the root.
+#[tactic(auto, using(table::proofs::Seen::holds_there))]
 pub fn cut(table: &mut Table, at: Handle) -> bool {
     if at.place == 0 {
         return false;
@@ -110,6 +90,7 @@ pub fn cut(table: &mut Table, at: Handle) -> bool {
 }
 
 /// Moves the handle's node to other bytes, if it is there.
+#[tactic(auto, using(table::proofs::Seen::holds_there))]
 pub fn moved(table: &mut Table, at: Handle, start: u32, len: u32) -> bool {
     if !table.holds(at) {
         return false;
@@ -119,6 +100,7 @@ pub fn moved(table: &mut Table, at: Handle, start: u32, len: u32) -> bool {
 }
 
 /// What the table says of the handle's node, if it is there.
+#[tactic(auto, using(table::proofs::Seen::holds_there))]
 pub fn seen(table: &Table, at: Handle) -> Option<Around> {
     if !table.holds(at) {
         return None;

@@ -5,8 +5,7 @@ use Rattle.grammar.specs.Pieces as of
 use Rattle.grammar.specs.Pieces.{Leaf, Box, Token, Break, Pieces}
 use Rattle.text.specs.declared.sink.TokenKind.{TokenKind}
 use Rattle.text.specs.declared.sink.TokenKind.TheVariants.{OpenArray, CloseArray, OpenObject, CloseObject, Comma, Colon}
-use Rattle.text.specs.declared.sink.NewlineKind.{NewlineKind}
-use Rattle.text.specs.declared.sink.NewlineKind.TheVariants.{LineFeed, CarriageReturn, Both}
+use Rattle.line_break.specs.Breaks.{break_for}
 use Rattle.text.specs.declared.sink.LeafKind as leaves
 use Rattle.text.specs.declared.sink.LeafKind.TheVariants as kind
 use Rattle.text.specs.declared.sink.Container as containers
@@ -32,12 +31,6 @@ token_for OpenObject = of.open_object
 token_for CloseObject = of.close_object
 token_for Comma = of.comma
 token_for Colon = of.colon
-
--- the Newline of each name
-abbrev pub break_for : NewlineKind → Break
-break_for LineFeed = of.line_feed
-break_for CarriageReturn = of.carriage_return
-break_for Both = of.both
 
 -- the leaf of a kind and its bytes
 abbrev pub leaf_for : leaves.LeafKind → List ℕ → Leaf

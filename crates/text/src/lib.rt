@@ -2,9 +2,9 @@
 #![tactic(auto)]
 
 pub mod fault;
-pub mod frame;
-pub mod gaps;
-pub mod scalars;
+mod frame;
+mod gaps;
+mod scalars;
 pub mod sink;
-pub mod tokens;
+mod tokens;
 pub mod values;

@@ -1,87 +1,63 @@
 //! Values that hold no others, and the names of members.
 
-ghost use Rattle.std.specs.Prelude.{◌≡◌, ℕ, ◌≤◌, length};
 ghost use Rattle.grammar.specs.Reader.{name_p, scalar_p};
-ghost use Rattle.text.specs.Reports.{Behind, Leads, Leafs, Makes, labelled};
+ghost use Rattle.text.specs.Reports.{Finds, Leads, Makes, labelled};
 
 use crate::fault::Fault;
 use crate::gaps::{put_part, read_trivia};
 use crate::sink::{LeafKind, Sink, TokenKind};
 use crate::tokens::read_token;
-use lexemes::bytes::{next_is, word_end};
+use lexemes::bytes::{behind_word, next_is};
 use lexemes::classes::ByteClass;
-use lexemes::numbers::number_end;
-use lexemes::strings::string_end;
+use lexemes::mismatch::Mismatch;
+use lexemes::numbers::behind_number;
+use lexemes::strings::behind_string;
 
-/// Reports the lexeme that ends at the place found, or says where it fails.
-fn read_leaf<S: Sink>(
-    text: &[u8],
-    at: usize,
-    end: Result<usize, usize>,
-    kind: LeafKind,
-    sink: &mut S,
-) -> Result<usize, Fault>
-    requires { Behind text.now at end }
-    ensures { Leafs S.Sink.after text.now at kind sink.old end result sink.new }
+// false / null / true / number / string, and what is left behind it
+fn scalar(text: &[u8]) -> Result<(LeafKind, &[u8]), Mismatch<'_>>
+    ensures { Finds scalar_p text.now result }
 {
-    match end {
-        Ok(j) => {
-            put_part(text, at, j, kind, sink);
-            Ok(j)
-        }
-        Err(j) => Err(Fault::Bad(j)),
+    if next_is(text, ByteClass::Only(b'"')) {
+        return Ok((LeafKind::String, behind_string(text)?));
     }
+    if next_is(text, ByteClass::Only(b'n')) {
+        return Ok((LeafKind::Null, behind_word(text, b"null")?));
+    }
+    if next_is(text, ByteClass::Only(b't')) {
+        return Ok((LeafKind::Boolean(true), behind_word(text, b"true")?));
+    }
+    if next_is(text, ByteClass::Only(b'f')) {
+        return Ok((LeafKind::Boolean(false), behind_word(text, b"false")?));
+    }
+    Ok((LeafKind::Number, behind_number(text)?))
 }
 
 /// A value that is no array and no object.
 // false / null / true / number / string
-pub fn read_scalar<S: Sink>(text: &[u8], at: usize, sink: &mut S) -> Result<usize, Fault>
-    requires { at ≤ length text.now }
-    ensures { Makes S.Sink.after scalar_p text.now at sink.old result sink.new }
+pub(crate) fn read_scalar<'a, S: Sink>(text: &'a [u8], sink: &mut S) -> Result<&'a [u8], Fault<'a>>
+    ensures { Makes S.Sink.after scalar_p text.now sink.old result sink.new }
 {
-    if next_is(text, at, ByteClass::Only(b'"')) {
-        return read_leaf(text, at, string_end(text, at), LeafKind::String, sink);
-    }
-    if next_is(text, at, ByteClass::Only(b'n')) {
-        return read_leaf(text, at, word_end(text, at, b"null"), LeafKind::Null, sink);
-    }
-    if next_is(text, at, ByteClass::Only(b't')) {
-        return read_leaf(
-            text,
-            at,
-            word_end(text, at, b"true"),
-            LeafKind::Boolean(true),
-            sink,
-        );
-    }
-    if next_is(text, at, ByteClass::Only(b'f')) {
-        return read_leaf(
-            text,
-            at,
-            word_end(text, at, b"false"),
-            LeafKind::Boolean(false),
-            sink,
-        );
-    }
-    read_leaf(text, at, number_end(text, at), LeafKind::Number, sink)
+    let (kind, rest) = scalar(text)?;
+    put_part(text, rest, kind, sink);
+    Ok(rest)
 }
 
 // the name of a member
-fn read_name<S: Sink>(text: &[u8], at: usize, sink: &mut S) -> Result<usize, Fault>
-    requires { at ≤ length text.now }
-    ensures { Makes S.Sink.after name_p text.now at sink.old result sink.new }
+fn read_name<'a, S: Sink>(text: &'a [u8], sink: &mut S) -> Result<&'a [u8], Fault<'a>>
+    ensures { Makes S.Sink.after name_p text.now sink.old result sink.new }
 {
-    read_leaf(text, at, string_end(text, at), LeafKind::Name, sink)
+    let rest = behind_string(text)?;
+    put_part(text, rest, LeafKind::Name, sink);
+    Ok(rest)
 }
 
 /// A member's name and colon, with the trivia behind each.
 // string name-separator
-pub fn read_label<S: Sink>(text: &[u8], at: usize, sink: &mut S) -> Result<usize, Fault>
-    requires { at ≤ length text.now }
-    ensures { Leads S.Sink.after labelled text.now at sink.old result sink.new }
+pub(crate) fn read_label<'a, S: Sink>(text: &'a [u8], sink: &mut S) -> Result<&'a [u8], Fault<'a>>
+    ensures { Leads S.Sink.after labelled text.now sink.old result sink.new }
 {
-    let name = read_name(text, at, sink)?;
-    let colon = read_trivia(text, name, false, sink)?;
-    let gap = read_token(text, colon, TokenKind::Colon, sink)?;
-    read_trivia(text, gap, false, sink)
+    let gap = read_name(text, sink)?;
+    let colon = read_trivia(gap, false, sink)?;
+    let gap = read_token(colon, TokenKind::Colon, sink)?;
+    read_trivia(gap, false, sink)
 }

@@ -1,8 +1,10 @@
 //! What the reader reports, and to whom.
 
 ghost use Rattle.std.specs.Prelude.{◌≡◌, List, [], ◌∷◌, ◌++◌};
-ghost use Rattle.grammar.specs.Pieces.{token_byte};
+ghost use Rattle.grammar.specs.Pieces.{kept, token_byte};
 ghost use Rattle.text.specs.Events.{Enter, Event, Leave, Put, box_for, leaf_for, token_for};
+
+use line_break::NewlineKind;
 
 /// A token of the text; its code is its byte.
 #[derive(Clone, Copy)]
@@ -24,14 +26,6 @@ impl TokenKind {
     }
 }
 
-/// What ends a line.
-#[derive(Clone, Copy)]
-pub enum NewlineKind {
-    LineFeed,
-    CarriageReturn,
-    Both,
-}
-
 /// What a leaf is, beside its bytes.
 #[derive(Clone, Copy)]
 pub enum LeafKind {
@@ -45,6 +39,24 @@ pub enum LeafKind {
     Newline(NewlineKind),
     LineComment,
     BlockComment,
+}
+
+impl LeafKind {
+    /// The bytes of such a leaf that are stored.
+    pub fn kept(self, bytes: &[u8]) -> &[u8]
+        ensures { result.now ≡ kept (leaf_for self bytes.now) }
+    {
+        match self {
+            LeafKind::Null | LeafKind::Boolean(_) | LeafKind::Token(_) | LeafKind::Newline(_) =>
+                &[],
+            LeafKind::Number
+            | LeafKind::String
+            | LeafKind::Name
+            | LeafKind::Whitespace
+            | LeafKind::LineComment
+            | LeafKind::BlockComment => bytes,
+        }
+    }
 }
 
 /// A node with others inside.

@@ -1,92 +1,55 @@
 //! The six tokens.
 
-ghost use Rattle.std.specs.Prelude.{◌≡◌, ℕ, ◌≤◌, length, drop};
+ghost use Rattle.std.specs.Prelude.{◌≡◌};
 ghost use Rattle.grammar.specs.Parse.{starts};
 ghost use Rattle.grammar.specs.Classes.{only};
 ghost use Rattle.grammar.specs.Pieces.{token_byte};
 ghost use Rattle.grammar.specs.Reader.{end_p, token_p};
 ghost use Rattle.text.specs.Events.{token_for};
-ghost use Rattle.text.specs.Frames.{frame_for, token_of};
-ghost use Rattle.text.specs.Reports.{Makes, Turns, done as done_of, more as more_of};
+ghost use Rattle.text.specs.Frames.{frame_for};
+ghost use Rattle.text.specs.Reports.{Makes, Turns};
 
-use crate::fault::{Fault, Step};
+use crate::fault::Fault;
 use crate::frame::Frame;
 use crate::gaps::put_part;
 use crate::sink::{LeafKind, Sink, TokenKind};
-
-/// Which token the byte is.
-fn token_of(b: u8) -> Option<TokenKind>
-    ensures { result ≡ token_of b }
-{
-    match b as char {
-        '[' => Some(TokenKind::OpenArray),
-        ']' => Some(TokenKind::CloseArray),
-        '{' => Some(TokenKind::OpenObject),
-        '}' => Some(TokenKind::CloseObject),
-        ',' => Some(TokenKind::Comma),
-        ':' => Some(TokenKind::Colon),
-        _ => None,
-    }
-}
+use lexemes::bytes::{behind_byte, next_is};
+use lexemes::classes::ByteClass;
+use std::ops::ControlFlow;
 
 /// Whether the token comes next.
-pub fn next_is_token(text: &[u8], at: usize, token: TokenKind) -> bool
-    ensures { result ≡ starts (only (token_byte (token_for token))) (drop at text.now) }
+pub(crate) fn next_is_token(text: &[u8], token: TokenKind) -> bool
+    ensures { result ≡ starts (only (token_byte (token_for token))) text.now }
 {
-    if at >= text.len() {
-        return false;
-    }
-    match token_of(text[at]) {
-        Some(found) => found.byte() == token.byte(),
-        None => false,
-    }
+    next_is(text, ByteClass::Only(token.byte()))
 }
 
 /// The token, and nothing else.
-pub fn read_token<S: Sink>(
-    text: &[u8],
-    at: usize,
+pub(crate) fn read_token<'a, S: Sink>(
+    text: &'a [u8],
     token: TokenKind,
     sink: &mut S,
-) -> Result<usize, Fault>
-    requires { at ≤ length text.now }
-    ensures { Makes S.Sink.after (token_p (token_for token)) text.now at sink.old result sink.new }
+) -> Result<&'a [u8], Fault<'a>>
+    ensures { Makes S.Sink.after (token_p (token_for token)) text.now sink.old result sink.new }
 {
-    if !next_is_token(text, at, token) {
-        return Err(Fault::Bad(at));
-    }
-    put_part(text, at, at + 1, LeafKind::Token(token), sink);
-    Ok(at + 1)
+    let rest = behind_byte(text, ByteClass::Only(token.byte()))?;
+    put_part(text, rest, LeafKind::Token(token), sink);
+    Ok(rest)
 }
 
-/// What was read goes on.
-pub fn more(read: Result<usize, Fault>) -> Result<Step, Fault>
-    ensures { result ≡ more_of read }
-{
-    match read {
-        Ok(j) => Ok(Step::More(j)),
-        Err(f) => Err(f),
-    }
-}
-
-/// What was read is the last.
-pub fn done(read: Result<usize, Fault>) -> Result<Step, Fault>
-    ensures { result ≡ done_of read }
-{
-    match read {
-        Ok(j) => Ok(Step::Done(j)),
-        Err(f) => Err(f),
-    }
-}
-
-/// A comma, or the token that closes the frame.
+/// A comma, behind which the items go on, or the token that closes the frame.
 // value-separator / end-array / end-object
-pub fn read_end<S: Sink>(text: &[u8], at: usize, frame: Frame, sink: &mut S) -> Result<Step, Fault>
-    requires { at ≤ length text.now }
-    ensures { Turns S.Sink.after (end_p (frame_for frame)) text.now at sink.old result sink.new }
+pub(crate) fn read_end<'a, S: Sink>(
+    text: &'a [u8],
+    frame: Frame,
+    sink: &mut S,
+) -> Result<ControlFlow<&'a [u8], &'a [u8]>, Fault<'a>>
+    ensures { Turns S.Sink.after (end_p (frame_for frame)) text.now sink.old result sink.new }
 {
-    if next_is_token(text, at, TokenKind::Comma) {
-        return more(read_token(text, at, TokenKind::Comma, sink));
+    if next_is_token(text, TokenKind::Comma) {
+        let rest = read_token(text, TokenKind::Comma, sink)?;
+        return Ok(ControlFlow::Continue(rest));
     }
-    done(read_token(text, at, frame.closer(), sink))
+    let rest = read_token(text, frame.closer(), sink)?;
+    Ok(ControlFlow::Break(rest))
 }

@@ -1,5 +1,7 @@
 pub mod Spots
 pub mod Seen
+pub mod Nodes
 pub mod Classes
-pub mod Stepped
+pub mod Listed
+pub mod Rooms
 pub mod Emptied

@@ -16,14 +16,15 @@ use Rattle.table.specs.contracts.kind.Kind as K
 use Rattle.table.specs.declared.node.Own as record_of
 use Rattle.table.specs.Tables as table
 use Rattle.table.proofs.Seen as of_table
-use Rattle.model.specs.Nodes.{handle, root}
-use Rattle.model.specs.Asks.{Spot, tree, then, named, numbered_so, width, spelt, spot_handle, root_handle}
+use Rattle.model.specs.Nodes.{root}
+use Rattle.model.specs.Asks.{Spot, tree, then, named, numbered_so, width, spelt, spot_handle}
 use Rattle.tree.specs.declared.tree.Tree.{Tree}
 use Rattle.tree.specs.Sorts.{sort_for, own_for, handle_for, bytes_in, Inside}
 use Rattle.tree.specs.Well.{below, whole, kids_in, Well}
 use Rattle.tree.specs.Trees.{kids}
-use Rattle.tree.specs.Steps.{spot_of, Stands, Leads, rest, back, Up, Names}
-use Rattle.tree.proofs.Spots.{spot_stands, spot_links, no_spot, rest_after, back_before, rest_kids, up_parent}
+use Rattle.tree.specs.Places.{spot_of, Stands}
+use Rattle.tree.specs.Steps.{root_spot, later_spots, earlier_spots, child_spots, Names}
+use Rattle.tree.proofs.Spots.{plug, spot_stands, spot_links, no_spot, from, back_from, Reached, Risen, rest_after, back_before, rest_kids, up_parent}
 
 -- a kind whose sort is the root's is the root's
 root_kind : (k : Kind) (t : List ℕ) → sort_for k t ≡ root → k ≡ Root
@@ -106,13 +107,9 @@ module _ (t : Tree) where
   root_stands = omega arith
 
   -- the root's spot
-  pub root_handle_lem : spot_handle (spot_of 0 (kids t)) ≡ root_handle
+  pub root_is_there : spot_of 0 (kids t) ≡ root_spot (kids t)
   unfolding spot_of
-  root_handle_lem = refl
-
-  pub root_kids : (spot_of 0 (kids t)).kids ≡ kids t
-  unfolding spot_of
-  root_kids = refl
+  root_is_there = refl
 
   module _ (k : ℕ) (c : Stands k (kids t)) where
     pub in_table : 0 < count k (table.tree t.table)
@@ -132,9 +129,9 @@ module _ (t : Tree) where
     handle_is o e =
         ap (λ y. record { place = y; number = o.number }) (sym place_is) ∙ ap (λ y. record { place = (spot_of k (kids t)).here.place; number = y.number }) (own_is o e)
 
-    -- its handle has its place
-    pub spot_handle_lem : spot_handle (spot_of k (kids t)) ≡ handle k (spot_of k (kids t)).here.own
-    spot_handle_lem = ap (λ y. handle y (spot_of k (kids t)).here.own) place_is
+    -- the whole document stands round it
+    pub plug_is : plug (spot_of k (kids t)) ≡ tree (kids t)
+    plug_is = (spot_links (kids t) distinct k c).whole
 
     -- a node's bytes lie in the store
     pub part_is : (o : record_of.Own) → Some o ≡ own_in k (table.tree t.table) → o.start + o.len ≤ vec_len t.store
@@ -146,19 +143,19 @@ module _ (t : Tree) where
     pub spelt_is : (o : record_of.Own) → Some o ≡ own_in k (table.tree t.table) → (x : Kind) → o.kind ≡ x → spelt (sort_for x (bytes_in (vec_items t.store) o)) ≡ spelt (spot_of k (kids t)).here.own.sort
     spelt_is o e x z = ap (λ y. spelt (sort_for y (bytes_in (vec_items t.store) o))) (sym z) ∙ ap (λ y. spelt y.sort) (own_is o e)
 
-    pub next_is : (r : Option ℕ) → r ≡ next_in k (table.tree t.table) → Leads r (kids t) × (rest r (kids t) ≡ (spot_of k (kids t)).here.after)
+    pub next_is : (r : Option ℕ) → r ≡ next_in k (table.tree t.table) → Reached from later_spots r (kids t) (spot_of k (kids t)).here.after (later_spots (spot_of k (kids t)))
     unfolding whole
     next_is r e = rest_after (kids t) distinct k c r (e ∙ (map_next (own_for (vec_items t.store)) k (table.tree t.table) ∙ (ap (λ y. next_in k y) rooted ∙ (spot_links (kids t) distinct k c).next)))
 
-    pub previous_is : (r : Option ℕ) → r ≡ prev_in k None (table.tree t.table) → Leads r (kids t) × (back r (kids t) ≡ (spot_of k (kids t)).here.before)
+    pub previous_is : (r : Option ℕ) → r ≡ prev_in k None (table.tree t.table) → Reached back_from earlier_spots r (kids t) (spot_of k (kids t)).here.before (earlier_spots (spot_of k (kids t)))
     unfolding whole
     previous_is r e = back_before (kids t) distinct k c r (e ∙ (map_prev (own_for (vec_items t.store)) k None (table.tree t.table) ∙ (ap (λ y. prev_in k None y) rooted ∙ (spot_links (kids t) distinct k c).prev)))
 
-    pub first_is : (r : Option ℕ) → r ≡ first_in k (table.tree t.table) → Leads r (kids t) × (rest r (kids t) ≡ (spot_of k (kids t)).kids)
+    pub first_is : (r : Option ℕ) → r ≡ first_in k (table.tree t.table) → Reached from later_spots r (kids t) (spot_of k (kids t)).kids (child_spots (spot_of k (kids t)))
     unfolding whole
     first_is r e = rest_kids (kids t) distinct k c r (e ∙ (map_first (own_for (vec_items t.store)) k (table.tree t.table) ∙ (ap (λ y. first_in k y) rooted ∙ (spot_links (kids t) distinct k c).first)))
 
-    pub parent_is : (r : Option ℕ) → r ≡ parent_in k None (table.tree t.table) → Leads r (kids t) × Up r (kids t) (spot_of k (kids t)) (spot_of k (kids t)).ups
+    pub parent_is : (r : Option ℕ) → r ≡ parent_in k None (table.tree t.table) → Risen r (kids t) (spot_of k (kids t))
     unfolding whole
     parent_is r e = up_parent (kids t) distinct k c r (e ∙ (map_parent (own_for (vec_items t.store)) k None (table.tree t.table) ∙ (ap (λ y. parent_in k None y) rooted ∙ (spot_links (kids t) distinct k c).up)))
 

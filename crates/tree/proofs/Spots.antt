@@ -10,7 +10,8 @@ use Rattle.model.specs.Nodes.{Own, Nodes}
 use Rattle.model.specs.Asks.{Frame, Spot, spot_in, spot_at, tree, or_given, width}
 use Rattle.model.specs.Edits.{onto}
 use Rattle.model.specs.State.{parent_spot}
-use Rattle.tree.specs.Steps.{nowhere, spot_of, Stands, Leads, rest, back, Up}
+use Rattle.tree.specs.Places.{nowhere, spot_of, Stands}
+use Rattle.tree.specs.Steps.{spot_above, spots_on, spots_back, spots_up, later_spots, earlier_spots, child_spots, ancestor_spots}
 
 -- siblings put into their frames again
 abbrev pub fill : List Frame → Nodes → Nodes
@@ -162,6 +163,36 @@ inwards s q i js r = record {
   ups = s.here ∷ s.ups;
 }
 
+-- a step leads nowhere, or to a node
+abbrev pub Leads : Option ℕ → Nodes → Type 0
+Leads None ks = Unit {0}
+Leads (Some k) ks = Stands k ks
+
+-- what stands where a step leads: read by v, and e where it leads nowhere
+abbrev pub led : {A : Type 0} → (Spot → A) → A → Option ℕ → Nodes → A
+led v e None ks = e
+led v e (Some k) ks = v (spot_of k ks)
+
+-- the node with its siblings after it, and before it
+abbrev pub from : Spot → Nodes
+from s = node s.here.place s.here.own s.kids s.here.after
+
+abbrev pub back_from : Spot → Nodes
+back_from s = node s.here.place s.here.own s.kids s.here.before
+
+-- what a step leads to: siblings in one or the other direction, as nodes and as spots
+abbrev pub Reached : (Spot → Nodes) → (Spot → List Spot) → Option ℕ → Nodes → Nodes → List Spot → Type 0
+Reached v l x ks ts ss = Leads x ks × (led v end x ks ≡ ts) × (led (λ s. s ∷ l s) [] x ks ≡ ss)
+
+-- a step leads to the parent of the node at s
+abbrev pub Risen : Option ℕ → Nodes → Spot → Type 0
+Risen x ks s = Leads x ks × (led Some None x ks ≡ spot_above s s.ups) × (led (λ u. u ∷ ancestor_spots u) [] x ks ≡ ancestor_spots s)
+
+-- each of the spots is that of the node at its place
+abbrev pub There : Nodes → List Spot → Type 0
+There ks [] = Unit {0}
+There ks (s ∷ ss) = Stands s.here.place ks × (spot_of s.here.place ks ≡ s) × There ks ss
+
 -- In a document whose places are distinct.
 module _ (ks : Nodes) (d : Distinct (tree ks)) where
   -- a way to fill in the tree is the spot of its place
@@ -171,6 +202,11 @@ module _ (ks : Nodes) (d : Distinct (tree ks)) where
     subst (λ y. 0 < count s.here.place y) e (plug_stands s),
     ap (λ o. or_given o nowhere) (subst (λ y. spot_in s.here.place [] end y ≡ Some s) e (spot_plug s (subst (λ y. count s.here.place y ≤ 1) (sym e) (d s.here.place)))),
   )
+
+  -- and so are the spots of siblings: each is that of its place
+  pub spots_there : (us : List Frame) (bs ts : Nodes) → fill us (onto bs ts) ≡ tree ks → There ks (spots_on us bs ts)
+  spots_there us bs end e = tt
+  spots_there us bs (node p i js ts) e = (let m = spot_is (record { here = record { before = bs; place = p; own = i; after = ts }; kids = js; ups = us }) e in (m.0, m.1, spots_there us (node p i js bs) ts e))
 
   module _ (k : ℕ) (c : Stands k ks) where
     spot_all : (spot_at k ks ≡ Some (spot_of k ks)) × Linked k [] end (tree ks) (spot_of k ks)
@@ -190,50 +226,50 @@ module _ (ks : Nodes) (d : Distinct (tree ks)) where
     spot_links = spot_all.1
 
     -- what stands after it, before it and below it is found again
-    pub rest_after : (x : Option ℕ) → x ≡ head_of (spot_of k ks).here.after → Leads x ks × (rest x ks ≡ (spot_of k ks).here.after)
+    pub rest_after : (x : Option ℕ) → x ≡ head_of (spot_of k ks).here.after → Reached from later_spots x ks (spot_of k ks).here.after (later_spots (spot_of k ks))
     rest_after x e = go (spot_of k ks).here.after refl e
       where
-        go : (a : Nodes) → (spot_of k ks).here.after ≡ a → x ≡ head_of a → Leads x ks × (rest x ks ≡ (spot_of k ks).here.after)
-        go end z y = subst (λ u. Leads u ks × (rest u ks ≡ (spot_of k ks).here.after)) (sym y) (tt, sym z)
+        go : (a : Nodes) → (spot_of k ks).here.after ≡ a → x ≡ head_of a → Reached from later_spots x ks (spot_of k ks).here.after (later_spots (spot_of k ks))
+        go end z y = subst (λ u. Reached from later_spots u ks (spot_of k ks).here.after (later_spots (spot_of k ks))) (sym y) (tt, sym z, sym (ap (λ a. spots_on (spot_of k ks).ups (node (spot_of k ks).here.place (spot_of k ks).here.own (spot_of k ks).kids (spot_of k ks).here.before) a) z))
         go (node q i js r) z y =
             let s : Spot = spot_of k ks in
             let m : Stands q ks × (spot_of q ks ≡ afterwards s q i js r) =
             spot_is (afterwards s q i js r) (ap (λ a. fill s.ups (onto s.here.before (node s.here.place s.here.own s.kids a))) (sym z) ∙ spot_links.whole) in
-            subst (λ u. Leads u ks × (rest u ks ≡ (spot_of k ks).here.after)) (sym y)
-            (m.0, ap (λ u. node q u.here.own u.kids u.here.after) m.1 ∙ sym z)
+            subst (λ u. Reached from later_spots u ks (spot_of k ks).here.after (later_spots (spot_of k ks))) (sym y)
+            (m.0, ap from m.1 ∙ sym z, ap (λ u. u ∷ later_spots u) m.1 ∙ sym (ap (λ a. spots_on (spot_of k ks).ups (node (spot_of k ks).here.place (spot_of k ks).here.own (spot_of k ks).kids (spot_of k ks).here.before) a) z))
 
-    pub back_before : (x : Option ℕ) → x ≡ head_of (spot_of k ks).here.before → Leads x ks × (back x ks ≡ (spot_of k ks).here.before)
+    pub back_before : (x : Option ℕ) → x ≡ head_of (spot_of k ks).here.before → Reached back_from earlier_spots x ks (spot_of k ks).here.before (earlier_spots (spot_of k ks))
     back_before x e = go (spot_of k ks).here.before refl e
       where
-        go : (b : Nodes) → (spot_of k ks).here.before ≡ b → x ≡ head_of b → Leads x ks × (back x ks ≡ (spot_of k ks).here.before)
-        go end z y = subst (λ u. Leads u ks × (back u ks ≡ (spot_of k ks).here.before)) (sym y) (tt, sym z)
+        go : (a : Nodes) → (spot_of k ks).here.before ≡ a → x ≡ head_of a → Reached back_from earlier_spots x ks (spot_of k ks).here.before (earlier_spots (spot_of k ks))
+        go end z y = subst (λ u. Reached back_from earlier_spots u ks (spot_of k ks).here.before (earlier_spots (spot_of k ks))) (sym y) (tt, sym z, sym (ap (λ a. spots_back (spot_of k ks).ups (node (spot_of k ks).here.place (spot_of k ks).here.own (spot_of k ks).kids (spot_of k ks).here.after) a) z))
         go (node q i js r) z y =
             let s : Spot = spot_of k ks in
             let m : Stands q ks × (spot_of q ks ≡ backwards s q i js r) =
             spot_is (backwards s q i js r) (ap (λ b. fill s.ups (onto b (node s.here.place s.here.own s.kids s.here.after))) (sym z) ∙ spot_links.whole) in
-            subst (λ u. Leads u ks × (back u ks ≡ (spot_of k ks).here.before)) (sym y)
-            (m.0, ap (λ u. node q u.here.own u.kids u.here.before) m.1 ∙ sym z)
+            subst (λ u. Reached back_from earlier_spots u ks (spot_of k ks).here.before (earlier_spots (spot_of k ks))) (sym y)
+            (m.0, ap back_from m.1 ∙ sym z, ap (λ u. u ∷ earlier_spots u) m.1 ∙ sym (ap (λ a. spots_back (spot_of k ks).ups (node (spot_of k ks).here.place (spot_of k ks).here.own (spot_of k ks).kids (spot_of k ks).here.after) a) z))
 
-    pub rest_kids : (x : Option ℕ) → x ≡ head_of (spot_of k ks).kids → Leads x ks × (rest x ks ≡ (spot_of k ks).kids)
+    pub rest_kids : (x : Option ℕ) → x ≡ head_of (spot_of k ks).kids → Reached from later_spots x ks (spot_of k ks).kids (child_spots (spot_of k ks))
     rest_kids x e = go (spot_of k ks).kids refl e
       where
-        go : (a : Nodes) → (spot_of k ks).kids ≡ a → x ≡ head_of a → Leads x ks × (rest x ks ≡ (spot_of k ks).kids)
-        go end z y = subst (λ u. Leads u ks × (rest u ks ≡ (spot_of k ks).kids)) (sym y) (tt, sym z)
+        go : (a : Nodes) → (spot_of k ks).kids ≡ a → x ≡ head_of a → Reached from later_spots x ks (spot_of k ks).kids (child_spots (spot_of k ks))
+        go end z y = subst (λ u. Reached from later_spots u ks (spot_of k ks).kids (child_spots (spot_of k ks))) (sym y) (tt, sym z, sym (ap (λ a. spots_on ((spot_of k ks).here ∷ (spot_of k ks).ups) end a) z))
         go (node q i js r) z y =
             let s : Spot = spot_of k ks in
             let m : Stands q ks × (spot_of q ks ≡ inwards s q i js r) =
             spot_is (inwards s q i js r) (ap (λ a. fill s.ups (onto s.here.before (node s.here.place s.here.own a s.here.after))) (sym z) ∙ spot_links.whole) in
-            subst (λ u. Leads u ks × (rest u ks ≡ (spot_of k ks).kids)) (sym y)
-            (m.0, ap (λ u. node q u.here.own u.kids u.here.after) m.1 ∙ sym z)
+            subst (λ u. Reached from later_spots u ks (spot_of k ks).kids (child_spots (spot_of k ks))) (sym y)
+            (m.0, ap from m.1 ∙ sym z, ap (λ u. u ∷ later_spots u) m.1 ∙ sym (ap (λ a. spots_on ((spot_of k ks).here ∷ (spot_of k ks).ups) end a) z))
 
     -- and so is its parent
-    pub up_parent : (x : Option ℕ) → x ≡ up_of (spot_of k ks).ups → Leads x ks × Up x ks (spot_of k ks) (spot_of k ks).ups
+    pub up_parent : (x : Option ℕ) → x ≡ up_of (spot_of k ks).ups → Risen x ks (spot_of k ks)
     up_parent x e = go (spot_of k ks).ups refl e
       where
-        go : (us : List Frame) → (spot_of k ks).ups ≡ us → x ≡ up_of us → Leads x ks × Up x ks (spot_of k ks) (spot_of k ks).ups
-        go [] z y = (subst (λ u. Leads u ks) (sym y) tt, subst (Up x ks (spot_of k ks)) (sym z) y)
+        go : (us : List Frame) → (spot_of k ks).ups ≡ us → x ≡ up_of us → Risen x ks (spot_of k ks)
+        go [] z y = subst (λ u. Risen u ks (spot_of k ks)) (sym y) (tt, sym (ap (spot_above (spot_of k ks)) z), sym (ap (spots_up (spot_of k ks)) z))
         go (f ∷ us) z y =
             let s : Spot = spot_of k ks in
             let m : Stands f.place ks × (spot_of f.place ks ≡ parent_spot s f us) =
             spot_is (parent_spot s f us) (ap (λ v. fill v (onto s.here.before (node s.here.place s.here.own s.kids s.here.after))) (sym z) ∙ spot_links.whole) in
-            (subst (λ u. Leads u ks) (sym y) m.0, subst (Up x ks s) (sym z) (y, m.1))
+            subst (λ u. Risen u ks (spot_of k ks)) (sym y) (m.0, ap Some m.1 ∙ sym (ap (spot_above s) z), ap (λ u. u ∷ ancestor_spots u) m.1 ∙ sym (ap (spots_up s) z))

@@ -5,8 +5,7 @@ use Rattle.grammar.specs.Pieces as of
 use Rattle.forest.specs.Forest.{Forest, end, node}
 use Rattle.table.specs.declared.kind.Kind.{Kind}
 use Rattle.table.specs.declared.kind.Kind.TheVariants.{Root, Array, Object, Property, Null, Boolean, Number, String, Name, Token, Whitespace, Newline, LineComment, BlockComment}
-use Rattle.table.specs.declared.kind.NewlineKind.{NewlineKind}
-use Rattle.table.specs.declared.kind.NewlineKind.TheVariants.{LineFeed, CarriageReturn, CarriageReturnLineFeed}
+use Rattle.line_break.specs.Breaks.{break_for}
 use Rattle.table.specs.declared.node.Own as record_of
 use Rattle.table.specs.declared.node.Handle as handle_of
 use Rattle.model.specs.Nodes.{Handle, Sort, root, within, single, Own}
@@ -16,12 +15,6 @@ abbrev pub token_for : ℕ → of.Token
 token_for c =
     cond (c == 91) of.open_array (cond (c == 93) of.close_array (cond (c == 123) of.open_object
     (cond (c == 125) of.close_object (cond (c == 44) of.comma of.colon))))
-
--- the line break of each name
-abbrev pub break_for : NewlineKind → of.Break
-break_for LineFeed = of.line_feed
-break_for CarriageReturn = of.carriage_return
-break_for CarriageReturnLineFeed = of.both
 
 -- what a node of a kind is, with its stored bytes
 abbrev pub sort_for : Kind → List ℕ → Sort

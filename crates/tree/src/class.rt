@@ -1,13 +1,13 @@
 //! What a node is, as the rules of gaps and commas see it, and as a caller is told it.
 
 ghost use Rattle.std.specs.Prelude.{◌≡◌, ℕ, List, [], ◌∷◌};
-ghost use Rattle.grammar.specs.Pieces.{token_byte, break_bytes, boolean_bytes};
+ghost use Rattle.grammar.specs.Pieces.{token_byte, boolean_bytes};
 ghost use Rattle.model.specs.Nodes.{class as class_of};
 ghost use Rattle.model.specs.Asks.{kind as kind_of};
-ghost use Rattle.tree.specs.Sorts.{sort_for, token_for, break_for};
+ghost use Rattle.tree.specs.Sorts.{sort_for, token_for};
 ghost use Rattle.tree.specs.Classes.{plain, kind_for};
 
-use table::{Kind, NewlineKind};
+use table::Kind;
 
 /// A node among its siblings: trivia, a comma, another mark (a token or a name), or a value or member.
 #[derive(Clone, Copy, PartialEq, Eq, Debug)]
@@ -106,17 +106,6 @@ pub fn token_bytes(token: char) -> &'static [u8]
         '}' => b"}",
         ',' => b",",
         _ => b":",
-    }
-}
-
-/// How a line break is spelled.
-pub fn newline_bytes(newline: NewlineKind) -> &'static [u8]
-    ensures { result.now ≡ break_bytes (break_for newline) }
-{
-    match newline {
-        NewlineKind::LineFeed => b"\n",
-        NewlineKind::CarriageReturn => b"\r",
-        NewlineKind::CarriageReturnLineFeed => b"\r\n",
     }
 }
 

@@ -5,8 +5,14 @@
 mod asks;
 pub mod class;
 mod clears;
+mod finds;
+pub mod node;
 mod start;
+mod steps;
 pub mod tree;
+pub mod walks;
 
 pub use class::{Class, NodeKind};
+pub use node::Node;
 pub use tree::Tree;
+pub use walks::{Ancestors, Preceding, Siblings};

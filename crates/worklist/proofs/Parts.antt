@@ -8,6 +8,13 @@ module _ {X : Type 0} where
   pub pushed : (xs : List X) (h n : ℕ) (x : X) → h + n < length xs → part (set xs (h + n) x) h (n + 1) ≡ part xs h n ++ x ∷ []
   pushed xs h n x l = ap (take (n + 1)) (drop-set-add h xs n x) ∙ take_more_set (drop h xs) n x (omega (arith, length-drop h xs))
 
+  -- the same, where the part goes from s up to e
+  pub pushed_upto : (xs : List X) (s e : ℕ) (x : X) → s ≤ e → e < length xs → part (set xs e x) s (e + 1 - s) ≡ part xs s (e - s) ++ x ∷ []
+  pushed_upto xs s e x o l =
+      let at : s + (e - s) ≡ e = omega arith in
+      let more : e - s + 1 ≡ e + 1 - s = omega arith in
+      ap (λ n. part (set xs e x) s n) (sym more) ∙ ap (λ n. part (set xs n x) s (e - s + 1)) (sym at) ∙ pushed xs s (e - s) x (omega (arith, l))
+
   -- one less at the back
   pub popped : (xs : List X) (h n : ℕ) (d : X) → 0 < n → h + n ≤ length xs → part xs h n ≡ part xs h (n - 1) ++ get_or xs (h + (n - 1)) d ∷ []
   popped xs h n d p l =

@@ -1,5 +1,5 @@
 -- The list that a work list stands for, and what each step does to it. Assumes nothing.
-use Rattle.std.specs.Prelude.{◌≡◌, ℕ, ◌+◌, Bool, true, false, List, [], ◌∷◌, ◌++◌, length, take, drop, Some, None, Option}
+use Rattle.std.specs.Prelude.{◌≡◌, ℕ, ◌+◌, ◌-◌, Bool, true, false, List, [], ◌∷◌, ◌++◌, length, take, drop, Some, None, Option}
 use Rattle.worklist.specs.declared.list.WorkList.{WorkList}
 
 -- n items from k on
@@ -13,11 +13,11 @@ module _ {X : Type 0} where
 
   -- the list
   unfoldable pub listed : WorkList X → List X
-  listed w = part w.items.now w.head w.len
+  listed w = part w.items.now w.live.start (w.live.end - w.live.start)
 
   -- how many were taken from the front
   unfoldable pub taken : WorkList X → ℕ
-  taken w = w.head
+  taken w = w.live.start
 
   -- how many items the room takes: those of the list, those that were taken from the front, and those that may still be put
   unfoldable pub room : WorkList X → ℕ

@@ -1,10 +1,12 @@
-ghost use Rattle.std.specs.Prelude.{◌+◌, ◌≤◌, length};
+ghost use Rattle.std.specs.Prelude.{◌≤◌, length};
 
-/// The `len` items from `head` on.
+use std::ops::Range;
+
+/// The items at the places of `live`, in lent room.
 #[derive(Drop)]
 pub struct WorkList<'a, T: Copy> {
     pub(crate) items: &'a mut [T],
-    pub(crate) head: usize,
-    pub(crate) len: usize,
-    ghost within: { head + len ≤ length items.now },
+    pub(crate) live: Range<usize>,
+    ghost ordered: { live.start ≤ live.end },
+    ghost within: { live.end ≤ length items.now },
 }

@@ -10,11 +10,7 @@ impl<'a, T: Copy> WorkList<'a, T> {
         ensures start { taken result ≡ 0 }
         ensures place { lent result ≡ items.old }
     {
-        WorkList {
-            items,
-            head: 0,
-            len: 0,
-        }
+        WorkList { items, live: 0..0 }
     }
 
     /// Puts `x` at the back; false where no room is left behind the last, which leaves the list as it is.
@@ -22,12 +18,12 @@ impl<'a, T: Copy> WorkList<'a, T> {
         ensures test { result ≡ nat_lt (taken self.old + length (listed self.old)) (room self.old) }
         ensures list { Pushed result x self.old self.new }
     {
-        let end = self.head + self.len;
+        let end = self.live.end;
         if end >= self.items.len() {
             return false;
         }
         self.items[end] = x;
-        self.len += 1;
+        self.live.end += 1;
         true
     }
 
@@ -35,23 +31,15 @@ impl<'a, T: Copy> WorkList<'a, T> {
     pub fn pop(&mut self) -> Option<T>
         ensures { Popped result self.old self.new }
     {
-        if self.len == 0 {
-            return None;
-        }
-        self.len -= 1;
-        Some(self.items[self.head + self.len])
+        let at = self.live.next_back()?;
+        Some(self.items[at])
     }
 
     /// Takes the first.
     pub fn pop_front(&mut self) -> Option<T>
         ensures { Shifted result self.old self.new }
     {
-        if self.len == 0 {
-            return None;
-        }
-        let x = self.items[self.head];
-        self.head += 1;
-        self.len -= 1;
-        Some(x)
+        let at = self.live.next()?;
+        Some(self.items[at])
     }
 }

@@ -1,28 +1,26 @@
-use Rattle.std.proofs.Common.{cond, ◌||◌, sym, ap, ◌∙◌}
-use Rattle.std.proofs.lemmas.Bool.{cond-true, cond-false}
+use Rattle.std.proofs.Common.{cond, ◌||◌, sym, ap, ◌∙◌, rules}
+use borrow.Author.Tests.{tests}
+use Rattle.std.specs.Option.{option_map}
+use Rattle.std.proofs.lemmas.Bool.{cond-true}
+use Rattle.std.proofs.lemmas.Iterator.Consumers.{YieldsList-from_first}
+use Rattle.std.proofs.lemmas.Iterator.Search.{find_from_yields_List}
 use Rattle.refusal.specs.declared.Refusal.TheVariants.{NotHere}
-use Rattle.model.specs.Asks.{sort_of, is_root, is_property, value_in}
+use Rattle.model.specs.Nodes.{class}
+use Rattle.model.specs.Asks.{Spot, sort_of, spot_handle, is_root, is_property, is_value, value_in}
 use Rattle.model.specs.State.{Given, Refused}
 use Rattle.tree.specs.Sorts.{handle_for}
-use Rattle.tree.specs.Trees.{kids}
-use Rattle.tree.specs.Steps.{spot_of}
-use Rattle.document.specs.Documents.{optional}
-use Rattle.document.proofs.Asked.{here, gone_exit}
+use Rattle.tree.specs.Steps.{spot}
+use Rattle.tree.specs.Walks.{siblings_left}
+use Rattle.tree.proofs.Listed.{mapped, value_in_on}
+use Rattle.document.specs.Documents.{state_of}
+use Rattle.document.proofs.Asked.{here}
 use Rattle.neighbours.proofs.asks.value.Goals as goal
-
-pub returns-in_err-place : goal.returns-in_err-place
-returns-in_err-place c =
-    let m = c.in_err-place.ensures in
-    gone_exit c.args.document.now c.in_ok-tree.tree.now c.in_ok-tree.ensures (handle_for c.args.handle) (λ s. cond (is_root (sort_of s) || is_property (sort_of s)) (Given (value_in s.kids)) (Refused NotHere)) (optional handle_for)
-    c.from_residual-in_err-place.result c.in_err-place.field-0.0 c.from_residual-in_err-place.ensures.1 m.0 m.1
-
-pub returns-then-not-has_one_value : goal.returns-then-not-has_one_value
-returns-then-not-has_one_value c =
-    let s = spot_of c.in_ok-place.place (kids c.in_ok-tree.tree.now) in
-    sym (here c.args.document.now c.in_ok-tree.tree.now c.in_ok-tree.ensures (handle_for c.args.handle) (λ s. cond (is_root (sort_of s) || is_property (sort_of s)) (Given (value_in s.kids)) (Refused NotHere)) c.in_ok-place.place c.in_ok-place.ensures.1 ∙ cond-false (is_root (sort_of s) || is_property (sort_of s)) (Given (value_in s.kids)) (Refused NotHere) (sym c.has_one_value.ensures ∙ c.if-not-has_one_value.true))
 
 pub returns : goal.returns
 returns c =
-    let s = spot_of c.in_ok-place.place (kids c.in_ok-tree.tree.now) in
-    ap Given (c.value_from.ensures ∙ ap value_in c.first.ensures.children)
-    ∙ sym (here c.args.document.now c.in_ok-tree.tree.now c.in_ok-tree.ensures (handle_for c.args.handle) (λ s. cond (is_root (sort_of s) || is_property (sort_of s)) (Given (value_in s.kids)) (Refused NotHere)) c.in_ok-place.place c.in_ok-place.ensures.1 ∙ cond-true (is_root (sort_of s) || is_property (sort_of s)) (Given (value_in s.kids)) (Refused NotHere) (sym c.has_one_value.ensures ∙ c.if-not-has_one_value.false))
+    let s = spot c.in_ok-node.node in
+    ap Given (mapped _ handle_for spot_handle c.find-value.result c.map.result c.map.ensures.cases (λ n y p. search rules)
+    ∙ (ap (option_map spot_handle) (find_from_yields_List (λ (s : Spot). is_value (class (sort_of s))) _ _ c.find-value.result c.find-value.ensures.ran (YieldsList-from_first spot siblings_left _ c.children.ensures.spots) (λ x b q k. search (rules, tests)))
+    ∙ value_in_on _ _ s.kids))
+    ∙ sym (here (state_of c.args.document.now) (handle_for c.args.handle) (λ s. cond (is_root (sort_of s) || is_property (sort_of s)) (Given (value_in s.kids)) (Refused NotHere)) s c.in_ok-node.ensures
+    ∙ cond-true _ _ _ (sym c.has_one_value.ensures ∙ c.if-not-has_one_value.false))

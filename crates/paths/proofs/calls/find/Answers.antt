@@ -1,28 +1,30 @@
-use Rattle.std.proofs.Common.{sym, ◌∙◌}
-use Rattle.document.specs.Documents.{optional}
-use Rattle.document.proofs.Asked.{gone}
+use Rattle.std.proofs.Common.{cond, ◌&&◌, sym, ap, ◌∙◌, rules}
+use borrow.Author.Tests.{tests}
+use Rattle.std.specs.Option.{option_map}
+use Rattle.std.proofs.lemmas.Bool.{cond-true}
+use Rattle.std.proofs.lemmas.Iterator.Consumers.{YieldsList-from_first}
+use Rattle.std.proofs.lemmas.Iterator.Search.{find_from_yields_List}
+use Rattle.grammar.specs.Pieces.{name_of}
+use Rattle.refusal.specs.declared.Refusal.TheVariants.{NotHere}
+use Rattle.model.specs.Nodes.{pieces}
+use Rattle.model.specs.Asks.{Spot, sort_of, spot_handle, is_object, is_property, same_bytes, find}
+use Rattle.model.specs.State.{Given, Refused}
 use Rattle.tree.specs.Sorts.{handle_for}
-use Rattle.tree.specs.Trees.{kids}
-use Rattle.tree.specs.Steps.{spot_of}
-use Rattle.paths.proofs.Told.{find_object, find_other, refused_exit, no_object}
+use Rattle.tree.specs.Steps.{spot}
+use Rattle.tree.specs.Walks.{siblings_left}
+use Rattle.tree.proofs.Listed.{mapped}
+use Rattle.document.specs.Documents.{state_of}
+use Rattle.document.proofs.Asked.{here}
+use Rattle.paths.proofs.Titles.{find_on}
 use Rattle.paths.proofs.calls.find.Goals as goal
+use Rattle.paths.proofs.calls.find.Goals.{in-Object, in_default}
 
-pub returns-in_err-place : goal.returns-in_err-place
-returns-in_err-place c =
-    let m = c.in_err-place.ensures in
-    refused_exit (optional handle_for) c.from_residual-in_err-place.result c.in_err-place.field-0.0 _ c.from_residual-in_err-place.ensures.1 m.0
-    ∙ sym (gone c.args.document.now c.in_ok-tree.tree.now c.in_ok-tree.ensures (handle_for c.args.handle) _ m.1)
-
-pub returns-in-Object : goal.returns-in-Object
-returns-in-Object c =
-    let m = c.in_ok-place.ensures in
-    find_object c.args.document.now c.in_ok-tree.tree.now c.in_ok-tree.ensures (handle_for c.args.handle) c.args.name.now c.in_ok-place.place m.1
-    c.in-Object.ensures.1 (optional handle_for c.find_in.result) c.find_in.ensures
-
-pub returns-in_default : goal.returns-in_default
-returns-in_default c =
-    let t = c.in_ok-tree.tree.now in
-    let m = c.in_ok-place.ensures in
-    let k = c.kind.ensures in
-    sym (find_other c.args.document.now t c.in_ok-tree.ensures (handle_for c.args.handle) c.args.name.now c.in_ok-place.place m.1
-    (no_object c.kind.result k.0 (spot_of c.in_ok-place.place (kids t)).here.own.sort k.1 c.in_default.not-Object))
+pub returns : goal.returns
+returns c =
+    let s = spot c.in_ok-node.node in
+    let u = c.args.name.now in
+    ap Given (mapped _ handle_for spot_handle c.find-property.result c.map.result c.map.ensures.cases (λ n y p. search rules)
+    ∙ (ap (option_map spot_handle) (find_from_yields_List (λ (s : Spot). is_property (sort_of s) && same_bytes (name_of (pieces s.kids)) u) _ _ c.find-property.result c.find-property.ensures.ran (YieldsList-from_first spot siblings_left _ c.children.ensures.spots) (λ x b q k. search (rules, tests)))
+    ∙ find_on u _ _ s.kids))
+    ∙ sym (here (state_of c.args.document.now) (handle_for c.args.handle) (λ s. cond (is_object (sort_of s)) (Given (find u s.kids)) (Refused NotHere)) s c.in_ok-node.ensures
+    ∙ cond-true (is_object (sort_of s)) _ _ (elim c.match-matches.branch [ in-Object w ↦ sym (ap is_object w.in-Object.ensures.1) | in_default w ↦ cc ]))

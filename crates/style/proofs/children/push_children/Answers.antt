@@ -1,12 +1,22 @@
 -- One child more.
-use Rattle.std.proofs.Common.{subst}
-use Rattle.tree.specs.Trees.{kids}
-use Rattle.style.proofs.Filling.{Filling, filling_turn}
+use Rattle.std.proofs.Common.{sym, ap, ◌∙◌}
+use Rattle.tree.specs.Steps.{spot, rest, ahead}
+use Rattle.tree.proofs.Listed.{rest_is, turn_on, none_on}
+use Rattle.tree.proofs.Nodes.{spot_place}
+use Rattle.style.proofs.Filling.{filling_start, filling_turn, filling_end}
 use Rattle.style.proofs.children.push_children.Goals as goal
 
-pub loop-at-preserved : goal.loop-at-preserved
-loop-at-preserved c =
-    let ks = kids c.args.tree.now in
-    filling_turn ks c.args.place c.args.queue.now c.in-Some.child c.loop-at.queue c.push.new.self c.push.result c.next-at.result
-    (subst (λ y. Filling ks c.args.place c.args.queue.now y c.loop-at.queue) c.in-Some.is c.loop-at.invariant)
-    c.push.ensures.test c.push.ensures.list c.next-at.ensures.there c.next-at.ensures.siblings
+pub loop-child-init : goal.loop-child-init
+loop-child-init c =
+    filling_start (spot c.args.node).kids c.args.queue.now (rest c.into_iter-child-iterator.result.at)
+    (rest_is _ _ _ (spot c.args.node).kids (ap (λ w. ahead w.at) c.into_iter-child-iterator.ensures.into_iter_gives ∙ c.children-child-items.ensures.spots)) c.requires
+
+pub loop-child-preserved : goal.loop-child-preserved
+loop-child-preserved c =
+    let n = c.in-Some.child in
+    filling_turn (spot c.args.node).kids c.args.queue.now (rest c.loop-child.child-iterator.at) (rest c.next.new.self.at) (spot n).here.place c.place.result (spot n).here.own (spot n).kids
+    c.loop-child.queue c.push.new.self c.push.result (turn_on c.loop-child.child-iterator.at c.next.new.self.at n c.in-Some.ensures.steps) (spot_place n ∙ sym c.place.ensures) c.loop-child.invariant
+    c.push.ensures.test c.push.ensures.list
+
+pub returns : goal.returns
+returns c = filling_end c.args.node c.args.queue.now (rest c.loop-child.child-iterator.at) c.loop-child.queue (none_on c.loop-child.child-iterator.at c.in-None.ensures.steps.0) c.loop-child.invariant

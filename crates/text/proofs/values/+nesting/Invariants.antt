@@ -1,8 +1,7 @@
-use Rattle.std.proofs.Common.{ℕ, ◌+◌, ◌-◌, ◌*◌, ◌≤◌, length, Result}
+use Rattle.std.proofs.Common.{◌+◌, ◌*◌, length}
 use Rattle.grammar.specs.Reader.{items_p, value_p}
-use Rattle.text.specs.declared.fault.Fault.{Fault}
 use Rattle.text.specs.Frames.{frame_for}
-use Rattle.text.specs.Reports.{Makes}
+use Rattle.text.specs.Reports.{Rest, Makes}
 use Rattle.text.proofs.values.+nesting.Given as goal
 
 abbrev pub decreases-read_nested : goal.decreases-read_nested
@@ -26,10 +25,9 @@ decreases-read_items g l = 8 * l.levels + 5
 abbrev pub decreases-read_container : goal.decreases-read_container
 decreases-read_container g l = 8 * l.levels + 6
 
-abbrev pub invariant-read_items-loop-step : goal.invariant-read_items-loop-step
-invariant-read_items-loop-step g l =
-    (l.i ≤ length l.text)
-    × ((r : Result ℕ Fault) (b : g.row.S.Denot) → Makes g.S.Sink.after (items_p (frame_for l.frame) (value_p l.levels)) l.text l.i l.sink r b → Makes g.S.Sink.after (items_p (frame_for l.frame) (value_p l.levels)) l.text l.from l.initial.sink r b)
+abbrev pub invariant-read_items-loop-next : goal.invariant-read_items-loop-next
+invariant-read_items-loop-next g l =
+    (r : Rest) (b : g.row.S.Denot) → Makes g.S.Sink.after (items_p (frame_for l.frame) (value_p l.levels)) l.rest l.sink r b → Makes g.S.Sink.after (items_p (frame_for l.frame) (value_p l.levels)) l.text l.initial.sink r b
 
-abbrev pub decreases-read_items-loop-step : goal.decreases-read_items-loop-step
-decreases-read_items-loop-step g l = length l.text - l.i
+abbrev pub decreases-read_items-loop-next : goal.decreases-read_items-loop-next
+decreases-read_items-loop-next g l = length l.rest

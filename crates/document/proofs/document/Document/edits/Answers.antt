@@ -5,4 +5,4 @@ use Rattle.document.proofs.document.Document.edits.Goals as goal
 
 pub returns : goal.returns
 returns c =
-    ap Given c.edits.ensures ∙ sym (plainly c.args.self.now c.in_ok-tree.tree.now c.in_ok-tree.ensures (λ s. Given s.edits))
+    ap Given c.edits.ensures ∙ sym (plainly c.args.self.now c.in_ok-loaded.field-0.now c.in_ok-loaded.ensures (λ s. Given s.edits))

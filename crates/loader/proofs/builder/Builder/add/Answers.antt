@@ -1,14 +1,7 @@
--- The numbers fit, and the node where the builder stands stays there. Assumes nothing.
+-- The node where the builder stands stays there. Assumes nothing.
 use Rattle.std.proofs.Common.{arith}
-use Rattle.table.proofs.Seen.{tree_size, records_few}
 use Rattle.loader.proofs.Standing.{still_there}
 use Rattle.loader.proofs.builder.Builder.add.Goals as goal
-
-pub overflow_cast-own : goal.overflow_cast-own
-overflow_cast-own c = omega (arith, c.living.ensures, tree_size c.args.self.now.table, records_few c.args.self.now.table)
-
-pub overflow_add-own : goal.overflow_add-own
-overflow_add-own c = omega (arith, c.living.ensures, tree_size c.args.self.now.table, records_few c.args.self.now.table)
 
 pub invariant_of-self : goal.invariant_of-self
 invariant_of-self c =

@@ -12,4 +12,4 @@ unfolding Built
 returns c =
     let x = leaf_for c.args.kind c.args.bytes.now in
     put_told (site_of c.args.self.now) (site_of c.add.new.self) (free c.args.self.now.table) c.kind_of.result (leaf_kind x) (c.kind_of.ensures c.args.bytes.now)
-    c.kept_of.result.now (kept x) c.add.ensures.site c.kept_of.ensures
+    c.kept.result.now (kept x) c.add.ensures.site c.kept.ensures

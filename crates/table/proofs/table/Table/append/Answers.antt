@@ -4,32 +4,21 @@ use Rattle.table.specs.Tables.{tree}
 use Rattle.table.proofs.Seen.{tree_distinct, there_once, last_there, last_inner}
 use Rattle.table.proofs.table.Table.append.Goals as goal
 
-pub insert_after-requires : goal.insert_after-requires
-insert_after-requires c =
-    let t = c.args.self.now in
-    let e = c.in-Some.ensures in
-    record {
-      there = last_there t c.args.parent c.requires.there c.in-Some.sibling (sym e);
-      inner = last_inner t c.args.parent c.requires.there c.in-Some.sibling (sym e);
-      numbered = c.requires.numbered;
-      room = c.requires.room;
-    }
+pub insert_after-requires-clause-there : goal.insert_after-requires-clause-there
+insert_after-requires-clause-there c = last_there c.args.self.now c.args.parent c.requires.there c.in-Some.sibling (sym c.in-Some.ensures)
 
-pub returns-in-None : goal.returns-in-None
-returns-in-None c =
-    let t = c.args.self.now in
-    record {
-      forest = c.insert_first.ensures.forest
-          ∙ sym (tail_first c.args.parent c.insert_first.result c.args.own (tree t) (there_once t c.args.parent c.requires.there) (sym c.in-None.ensures));
-      taken = c.insert_first.ensures.taken;
-    }
+pub insert_after-requires-clause-inner : goal.insert_after-requires-clause-inner
+insert_after-requires-clause-inner c = last_inner c.args.self.now c.args.parent c.requires.there c.in-Some.sibling (sym c.in-Some.ensures)
 
-pub returns-in-Some : goal.returns-in-Some
-returns-in-Some c =
+pub returns-in-None-clause-forest : goal.returns-in-None-clause-forest
+returns-in-None-clause-forest c =
     let t = c.args.self.now in
-    record {
-      forest = c.insert_after.ensures.forest
-          ∙ sym (tail_after c.args.parent c.insert_after.result c.args.own c.in-Some.sibling (tree t) (tree_distinct t)
-          (there_once t c.args.parent c.requires.there) (sym c.in-Some.ensures));
-      taken = c.insert_after.ensures.taken;
-    }
+    c.insert_first.ensures.forest
+    ∙ sym (tail_first c.args.parent c.insert_first.result c.args.own (tree t) (there_once t c.args.parent c.requires.there) (sym c.in-None.ensures))
+
+pub returns-in-Some-clause-forest : goal.returns-in-Some-clause-forest
+returns-in-Some-clause-forest c =
+    let t = c.args.self.now in
+    c.insert_after.ensures.forest
+    ∙ sym (tail_after c.args.parent c.insert_after.result c.args.own c.in-Some.sibling (tree t) (tree_distinct t)
+    (there_once t c.args.parent c.requires.there) (sym c.in-Some.ensures))

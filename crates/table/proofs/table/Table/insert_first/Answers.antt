@@ -1,7 +1,8 @@
 use Rattle.std.proofs.Common.{vec_items, vec_capacity, arith}
 use Rattle.table.specs.Tables.{tree, free}
-use Rattle.table.proofs.Seen.{there_in, spare_long}
-use Rattle.table.proofs.Inserted.{free_taken, top_fits, first_fits, first_put}
+use Rattle.table.proofs.Standing.{all_in, first_within}
+use Rattle.table.proofs.Seen.{good_of, there_of, spare_long}
+use Rattle.table.proofs.Inserted.{free_taken, top_fits, first_put}
 use Rattle.table.proofs.table.Table.insert_first.Goals as goal
 
 pub take-place-requires : goal.take-place-requires
@@ -10,19 +11,19 @@ take-place-requires c = omega (arith, spare_long c.args.self.now, c.requires.roo
 pub link_first-requires : goal.link_first-requires
 link_first-requires c =
     let t = c.args.self.now in
-    let fs = vec_items c.take-place.new.spare in
-    let n = c.take-place.result in
+    let xs = c.deref_mut.result.now in
+    let e = c.deref_mut.ensures.value in
     let v = c.args.parent in
     record {
-      v_within = there_in t v c.requires.there;
-      n_within = top_fits t fs n v c.take-place.ensures.items c.requires.there;
-      first_within = first_fits t fs n v c.take-place.ensures.items c.requires.there;
+      parent_within = all_in xs _ _ (good_of t xs e).sound v (there_of t xs e v c.requires.there);
+      place_within = top_fits t xs e (vec_items c.take-place.new.spare) c.take-place.result v c.take-place.ensures.items c.requires.there;
+      first_within = first_within xs _ _ (good_of t xs e).sound v (there_of t xs e v c.requires.there);
     }
 
 pub invariant_of-self : goal.invariant_of-self
 invariant_of-self c = record {
-  ok = ∣ (first_put c.args.self.now (vec_items c.take-place.new.spare) c.take-place.result c.args.parent c.take-place.ensures.items
-      c.requires.there c.args.own c.requires.numbered (vec_items c.link_first.new.nodes) c.link_first.ensures.items
+  ok = ∣ (first_put c.args.self.now c.deref_mut.result.now c.deref_mut.ensures.value (vec_items c.take-place.new.spare) c.take-place.result c.args.parent
+      c.take-place.ensures.items c.requires.there c.args.own c.requires.numbered c.link_first.new.nodes c.link_first.ensures c.link_first.auto.nodes
       (vec_capacity c.take-place.new.spare) c.take-place.ensures.capacity).0 ∣₁;
 }
 
@@ -30,8 +31,8 @@ pub returns : goal.returns
 unfolding tree free
 returns c =
     record {
-      forest = (first_put c.args.self.now (vec_items c.take-place.new.spare) c.take-place.result c.args.parent c.take-place.ensures.items
-          c.requires.there c.args.own c.requires.numbered (vec_items c.link_first.new.nodes) c.link_first.ensures.items
+      forest = (first_put c.args.self.now c.deref_mut.result.now c.deref_mut.ensures.value (vec_items c.take-place.new.spare) c.take-place.result c.args.parent
+          c.take-place.ensures.items c.requires.there c.args.own c.requires.numbered c.link_first.new.nodes c.link_first.ensures c.link_first.auto.nodes
           (vec_capacity c.take-place.new.spare) c.take-place.ensures.capacity).1;
       taken = free_taken c.args.self.now (vec_items c.take-place.new.spare) c.take-place.result c.take-place.ensures.items;
     }

@@ -1,12 +1,9 @@
 use Rattle.std.proofs.Common.{arith}
-use Rattle.table.specs.Tables.{records}
 use Rattle.table.proofs.Seen.{tree_size}
 use Rattle.table.proofs.table.Table.living.Goals as goal
 
 pub overflow_sub-result : goal.overflow_sub-result
-unfolding records
 overflow_sub-result c = omega (arith, tree_size c.args.self.now)
 
 pub returns : goal.returns
-unfolding records
 returns c = omega (arith, tree_size c.args.self.now)

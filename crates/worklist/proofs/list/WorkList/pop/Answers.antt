@@ -1,17 +1,9 @@
 -- An item less at the back, or none there.
-use Rattle.std.proofs.Common.{refl, ap, arith}
-use Rattle.worklist.specs.Listed.{lent, listed, taken, part}
-use Rattle.worklist.proofs.Parts.{popped}
+use Rattle.worklist.proofs.Taken.{none_back, some_back}
 use Rattle.worklist.proofs.list.WorkList.pop.Goals as goal
 
-pub returns-then-self-eq0 : goal.returns-then-self-eq0
-unfolding listed
-returns-then-self-eq0 g c =
-    let w = c.args.self.now in
-    (ap (part w.items.now w.head) c.if-self-eq0.true, refl {a = w})
+pub returns-in_err-at : goal.returns-in_err-at
+returns-in_err-at g c = let e = c.in_err-at.ensures.steps in none_back c.args.self.now _ _ _ e.0 e.1.1 e.1.0 _ c.from_residual.ensures
 
 pub returns : goal.returns
-unfolding listed taken lent
-returns g c =
-    let w = c.args.self.now in
-    (popped w.items.now w.head w.len _ (omega arith) w.within, refl {a = w.head}, refl {a = w.items.now})
+returns g c = let e = c.in_ok-at.ensures.steps in some_back c.args.self.now _ _ _ c.in_ok-at.at _ e.0 e.1.0 e.1.1 e.1.2

@@ -1,0 +1,7 @@
+use denote.Text.{Utf8}
+use denote.Shadow.{shadow}
+use Rattle.load_vectors.proofs.replay.replay.Given as goal
+
+abbrev pub invariant-loop-line : goal.invariant-loop-line
+invariant-loop-line l =
+    (goal.iterator-loop-line).can_next l.line-iterator × (goal.iterator-loop-line).is_finite l.line-iterator × shadow (Utf8 l.question)

@@ -1,9 +1,0 @@
-use Rattle.std.proofs.Common.{◌∙◌}
-use Rattle.table.proofs.Seen.{there_in, last_is}
-use Rattle.table.proofs.table.Table.last.Goals as goal
-
-pub index-requires : goal.index-requires
-index-requires c = there_in c.args.self.now c.args.place c.requires
-
-pub returns : goal.returns
-returns c = c.target.ensures ∙ last_is c.args.self.now c.args.place c.requires c.index.result.now c.index.ensures

@@ -1,0 +1,180 @@
+-- Siblings as a list of spots: what the consumers of a walk count and find in the list is what the definitions find among the siblings. Assumes nothing.
+use Rattle.std.proofs.Common.{◌≡◌, ℕ, zero, suc, ◌+◌, Bool, true, false, cond, not, ◌||◌, List, [], ◌∷◌, length, map, Some, None, Option, sym, refl, ap, ◌∙◌, arith}
+use Rattle.std.specs.List.{slice_get, filter, list_any, find, last_or}
+use Rattle.std.specs.Iterator.{Drains}
+use Rattle.std.proofs.lemmas.Iterator.{YieldsList, items_from_drains}
+use Rattle.std.specs.Option.{option_map, MatchOption, IsSomeAnd}
+use Rattle.grammar.specs.Layout as said
+use Rattle.forest.specs.Forest.{end, node}
+use Rattle.model.specs.Nodes.{Handle, Nodes, Class, gap, mark, value, class}
+use Rattle.model.specs.Asks.{Frame, Spot, sort_of, spot_handle, first_handle, any, tally, width, child_at, is_comma, is_gap, is_value, value_in, comma_at, trailing, then, or_else, last_at, behind_last}
+use Rattle.model.specs.State.{parent_spot}
+use Rattle.tree.specs.declared.node.Node.{Node}
+use Rattle.tree.specs.Steps.{spot, rest, back, ahead, behind, spots_on, spots_back, spots_up, later_spots, earlier_spots}
+
+-- as many as there are
+pub length_on : (us : List Frame) (bs ts : Nodes) → length (spots_on us bs ts) ≡ width ts
+length_on us bs end = refl
+length_on us bs (node p i ks ts) = ap suc (length_on us (node p i ks bs) ts)
+
+pub length_back : (us : List Frame) (ts bs : Nodes) → length (spots_back us ts bs) ≡ width bs
+length_back us ts end = refl
+length_back us ts (node p i ks bs) = ap suc (length_back us (node p i ks ts) bs)
+
+pub length_up : (s : Spot) (us : List Frame) → length (spots_up s us) ≡ length us
+length_up s [] = refl
+length_up s (f ∷ us) = ap suc (length_up (parent_spot s f us) us)
+
+-- those of a class, counted
+tally_more : (b : Bool) (x : Spot) (xs : List Spot) (n : ℕ) → length xs ≡ n → length (cond b (x ∷ xs) xs) ≡ cond b 1 0 + n
+tally_more true x xs n e = omega arith
+tally_more false x xs n e = omega arith
+
+pub tally_on : (f : Class → Bool) (us : List Frame) (bs ts : Nodes) → length (filter (λ s. f (class (sort_of s))) (spots_on us bs ts)) ≡ tally f ts
+tally_on f us bs end = refl
+tally_on f us bs (node p i ks ts) = tally_more (f (class i.sort)) _ _ (tally f ts) (tally_on f us (node p i ks bs) ts)
+
+pub tally_back : (f : Class → Bool) (us : List Frame) (ts bs : Nodes) → length (filter (λ s. f (class (sort_of s))) (spots_back us ts bs)) ≡ tally f bs
+tally_back f us ts end = refl
+tally_back f us ts (node p i ks bs) = tally_more (f (class i.sort)) _ _ (tally f bs) (tally_back f us (node p i ks ts) bs)
+
+-- whether there is one of a class
+pub any_on : (f : Class → Bool) (us : List Frame) (bs ts : Nodes) → list_any (λ s. f (class (sort_of s))) (spots_on us bs ts) ≡ any f ts
+any_on f us bs end = refl
+any_on f us bs (node p i ks ts) = ap (λ b. f (class i.sort) || b) (any_on f us (node p i ks bs) ts)
+
+-- the one of an index
+pub child_at_on : (n : ℕ) (us : List Frame) (bs ts : Nodes) → option_map spot_handle (slice_get (spots_on us bs ts) n) ≡ child_at n ts
+child_at_on n us bs end = refl
+child_at_on zero us bs (node p i ks ts) = refl
+child_at_on (suc n) us bs (node p i ks ts) = child_at_on n us (node p i ks bs) ts
+
+-- the first value or member
+pub value_in_on : (us : List Frame) (bs ts : Nodes) → option_map spot_handle (find (λ s. is_value (class (sort_of s))) (spots_on us bs ts)) ≡ value_in ts
+value_in_on us bs end = refl
+value_in_on us bs (node p i ks ts) = go (is_value (class i.sort)) _ (value_in_on us (node p i ks bs) ts)
+  where
+    go : (b : Bool) (o : Option Spot) → option_map spot_handle o ≡ value_in ts
+        → option_map spot_handle (cond b (Some (record { here = record { before = bs; place = p; own = i; after = ts }; kids = ks; ups = us })) o) ≡ cond b (Some (record { place = p; number = i.number })) (value_in ts)
+    go true o e = refl
+    go false o e = e
+
+-- what stands behind the last value or member
+behind_more : (o : Option Nodes) (ts : Nodes) (x : Option Nodes) → or_else o (Some ts) ≡ or_else (or_else o (Some ts)) x
+behind_more None ts x = refl
+behind_more (Some us) ts x = refl
+
+behind_last_from : (us : List Frame) (o : Option Spot) (bs ts : Nodes)
+    → option_map (λ s. s.here.after) (last_or o (filter (λ s. is_value (class (sort_of s))) (spots_on us bs ts))) ≡ or_else (behind_last ts) (option_map (λ s. s.here.after) o)
+behind_last_from us o bs end = refl
+behind_last_from us o bs (node p i ks ts) = go (class i.sort) (λ y. behind_last_from us y (node p i ks bs) ts)
+  where
+    x : Spot
+    x = record { here = record { before = bs; place = p; own = i; after = ts }; kids = ks; ups = us }
+
+    xs : List Spot
+    xs = filter (λ s. is_value (class (sort_of s))) (spots_on us (node p i ks bs) ts)
+
+    go : (c : Class) → ((y : Option Spot) → option_map (λ s. s.here.after) (last_or y xs) ≡ or_else (behind_last ts) (option_map (λ s. s.here.after) y))
+        → option_map (λ s. s.here.after) (last_or o (cond (is_value c) (x ∷ xs) xs)) ≡ or_else (last_at c (behind_last ts) ts) (option_map (λ s. s.here.after) o)
+    go (gap g) h = h o
+    go (mark m) h = h o
+    go value h = h (Some x) ∙ behind_more (behind_last ts) ts _
+
+pub behind_last_on : (us : List Frame) (bs ts : Nodes) → option_map (λ s. s.here.after) (last_or None (filter (λ s. is_value (class (sort_of s))) (spots_on us bs ts))) ≡ behind_last ts
+behind_last_on us bs ts = behind_last_from us None bs ts ∙ none (behind_last ts)
+  where
+    none : (o : Option Nodes) → or_else o None ≡ o
+    none None = refl
+    none (Some us) = refl
+
+-- the first sibling that is no trivia, if it is a comma
+abbrev pub comma_of : Spot → Option Handle
+comma_of s = cond (is_comma (class (sort_of s))) (Some (spot_handle s)) None
+
+pub trailing_on : (us : List Frame) (bs ts : Nodes) → then (find (λ s. not (is_gap (class (sort_of s)))) (spots_on us bs ts)) comma_of ≡ trailing ts
+trailing_on us bs end = refl
+trailing_on us bs (node p i ks ts) = go (class i.sort) refl (trailing_on us (node p i ks bs) ts)
+  where
+    x : Spot
+    x = record { here = record { before = bs; place = p; own = i; after = ts }; kids = ks; ups = us }
+
+    later : Option Spot
+    later = find (λ s. not (is_gap (class (sort_of s)))) (spots_on us (node p i ks bs) ts)
+
+    go : (c : Class) → class i.sort ≡ c → then later comma_of ≡ trailing ts → then (cond (not (is_gap c)) (Some x) later) comma_of ≡ comma_at c (spot_handle x) (trailing ts)
+    go (gap g) e h = h
+    go (mark said.Open) e h = ap (λ (c : Class). cond (is_comma c) (Some (spot_handle x)) None) e
+    go (mark said.Close) e h = ap (λ (c : Class). cond (is_comma c) (Some (spot_handle x)) None) e
+    go (mark said.Comma) e h = ap (λ (c : Class). cond (is_comma c) (Some (spot_handle x)) None) e
+    go (mark said.Colon) e h = ap (λ (c : Class). cond (is_comma c) (Some (spot_handle x)) None) e
+    go (mark said.Name) e h = ap (λ (c : Class). cond (is_comma c) (Some (spot_handle x)) None) e
+    go value e h = ap (λ (c : Class). cond (is_comma c) (Some (spot_handle x)) None) e
+
+-- the last that a walk gave
+last_mapped : {A B : Type 0} (v : A → B) (o : Option A) (xs : List A) → option_map v (last_or o xs) ≡ last_or (option_map v o) (map v xs)
+last_mapped v o [] = refl
+last_mapped v o (x ∷ xs) = last_mapped v (Some x) xs
+
+pub last_gives : {S A B : Type 0} {steps : S → Option A → S → Type 0} {v : A → B} {s : S} {all : List B} (r : Option A)
+    → ((xs : List A) × Drains steps s xs × (r ≡ last_or None xs)) → YieldsList steps v s all → option_map v r ≡ last_or None all
+last_gives {v = v} r (xs, (u, (t, y, z)), e) k = ap (option_map v) e ∙ (last_mapped v None xs ∙ ap (last_or None) (items_from_drains xs (t, y, λ _. (u, z)) k))
+
+-- what a closure made of the node that was found
+pub mapped : {B C : Type 0} (Post : Node → B → Type 0) (w : B → C) (f : Spot → C) (o : Option Node) (r : Option B)
+    → MatchOption o (r ≡ None) (λ n. IsSomeAnd r (Post n)) → ((n : Node) (y : B) → Post n y → w y ≡ f (spot n)) → option_map w r ≡ option_map f (option_map spot o)
+mapped Post w f None r m h = ap (option_map w) m
+mapped Post w f (Some n) None m h = absurd m
+mapped Post w f (Some n) (Some y) m h = ap Some (h n y m)
+
+-- the handle of the node that a step leads to
+pub first_on : (o : Option Node) → option_map spot_handle (option_map spot o) ≡ first_handle (rest o)
+first_on None = refl
+first_on (Some n) = refl
+
+pub first_back : (o : Option Node) → option_map spot_handle (option_map spot o) ≡ first_handle (back o)
+first_back None = refl
+first_back (Some n) = refl
+
+-- what is left as spots is what is left as siblings
+pub rest_is : (o : Option Node) (us : List Frame) (bs ts : Nodes) → ahead o ≡ spots_on us bs ts → rest o ≡ ts
+rest_is None us bs end e = refl
+rest_is None us bs (node p i ks ts) e = let z : ◌≡◌ {A = ℕ} 0 1 = cc in absurd (omega arith)
+rest_is (Some n) us bs end e = let z : ◌≡◌ {A = ℕ} 0 1 = cc in absurd (omega arith)
+rest_is (Some n) us bs (node p i ks ts) e =
+    let z : spot n ≡ record { here = record { before = bs; place = p; own = i; after = ts }; kids = ks; ups = us } = cc in
+    ap (λ s. node s.here.place s.here.own s.kids s.here.after) z
+
+pub back_is : (o : Option Node) (us : List Frame) (ts bs : Nodes) → behind o ≡ spots_back us ts bs → back o ≡ bs
+back_is None us ts end e = refl
+back_is None us ts (node p i ks bs) e = let z : ◌≡◌ {A = ℕ} 0 1 = cc in absurd (omega arith)
+back_is (Some n) us ts end e = let z : ◌≡◌ {A = ℕ} 0 1 = cc in absurd (omega arith)
+back_is (Some n) us ts (node p i ks bs) e =
+    let z : spot n ≡ record { here = record { before = bs; place = p; own = i; after = ts }; kids = ks; ups = us } = cc in
+    ap (λ s. node s.here.place s.here.own s.kids s.here.before) z
+
+-- a turn of a loop: the node that came, with what is left behind it
+pub turn_on : (a b : Option Node) (n : Node) → ahead a ≡ spot n ∷ ahead b → rest a ≡ node (spot n).here.place (spot n).here.own (spot n).kids (rest b)
+turn_on None b n e = let z : ◌≡◌ {A = ℕ} 0 1 = cc in absurd (omega arith)
+turn_on (Some m) b n e =
+    let z : spot m ≡ spot n = cc in
+    let w : ahead b ≡ later_spots (spot m) = cc in
+    ap (λ y. node (spot m).here.place (spot m).here.own (spot m).kids y) (sym (rest_is b _ _ (spot m).here.after w))
+    ∙ ap (λ s. node s.here.place s.here.own s.kids (rest b)) z
+
+pub turn_back : (a b : Option Node) (n : Node) → behind a ≡ spot n ∷ behind b → back a ≡ node (spot n).here.place (spot n).here.own (spot n).kids (back b)
+turn_back None b n e = let z : ◌≡◌ {A = ℕ} 0 1 = cc in absurd (omega arith)
+turn_back (Some m) b n e =
+    let z : spot m ≡ spot n = cc in
+    let w : behind b ≡ earlier_spots (spot m) = cc in
+    ap (λ y. node (spot m).here.place (spot m).here.own (spot m).kids y) (sym (back_is b _ _ (spot m).here.before w))
+    ∙ ap (λ s. node s.here.place s.here.own s.kids (back b)) z
+
+-- nothing is left
+pub none_on : (a : Option Node) → ahead a ≡ [] → rest a ≡ end
+none_on None e = refl
+none_on (Some m) e = let z : ◌≡◌ {A = ℕ} 0 1 = cc in absurd (omega arith)
+
+pub none_back : (a : Option Node) → behind a ≡ [] → back a ≡ end
+none_back None e = refl
+none_back (Some m) e = let z : ◌≡◌ {A = ℕ} 0 1 = cc in absurd (omega arith)
