@@ -1,7 +1,7 @@
 #!/usr/bin/env python3
 """Lists the places of older forms in crates/*/src, point by point, as docs/DESIGN-PASS.md counts them.
 
-    python3 tools/forms.py [POINT..]      the points to list, of 1 to 8; with none, the counts alone
+    python3 tools/forms.py [POINT..]      the points to list, of 1 to 7; with none, the counts alone
 """
 import collections
 import glob
@@ -77,8 +77,8 @@ POINTS = {
         ("numbers as errors", lambda: grep(r"Result<.*, (usize|u8|u16|u32|u64)>")),
         ("an error handed on by hand", lambda: grep(r"Err\((\w+|_)\) => (return )?Err\(")),
         ("an absence handed on by hand", lambda: grep(r"None => (return )?(None|Err\(.*|Ok\(None\))\)?,?$")),
-        ("a value that means none", lambda: grep(r"\b(NONE|NOBODY)\b", lambda line: "use " not in line)),
-        ("a flag in a struct", lambda: grep(r"^\s*(pub )?\w+: bool,$")),
+        ("a value that means none", lambda: grep(r"\b(NONE|NOBODY|NOWHERE)\b", lambda line: "use " not in line)),
+        ("a flag in a struct or among parameters", lambda: grep(r"^\s*(pub )?\w+: bool,$")),
     ],
     2: [("functions that differ in names and constants alone", lambda: [x for v in alike().values() for x in v])],
     3: [
@@ -93,9 +93,9 @@ POINTS = {
         ("a value printed field by field", lambda: grep(r"let (\w+) = \w+\.\1;")),
     ],
     5: [
-        ("clauses that stand in three functions of a crate and more", lambda: [x for v in requires().values() for x in v]),
+        ("clauses `requires` that stand in three functions of a crate and more", lambda: [x for v in requires().values() for x in v]),
         ("functions of five parameters and more", lambda: [
-            (p, n, name) for p, n, name, head, _ in functions() if len(re.findall(r"[\(,]\s*(?:mut )?\w+: ", re.split(r"\n\s*(?:requires|ensures)", head)[0])) >= 5]),
+            (p, n, name) for p, n, name, head, _ in functions() if len(re.findall(r"[\(,]\s*(?:mut )?\w+: ", re.sub(r"^[^(]*<.*?>\(", "(", re.split(r"\n\s*(?:requires|ensures)", head)[0], flags=re.S))) >= 5]),
     ],
     6: [
         ("a place in a text beside the text", lambda: [

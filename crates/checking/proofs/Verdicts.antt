@@ -1,15 +1,13 @@
 -- What the check of a text answers, by what the reader has read. Assumes nothing.
-use Rattle.std.proofs.Common.{◌≡◌, ℕ, suc, ◌≤◌, cond, List, [], ◌∷◌, length, Ok, Err, Result, sym, refl, ap, ◌∙◌, subst, append-nil, arith, le-ltb}
+use Rattle.std.proofs.Common.{◌≡◌, ℕ, ◌≤◌, cond, List, [], ◌∷◌, length, Ok, Err, sym, refl, ap, ◌∙◌, subst, append-nil, arith, le-ltb}
 use Rattle.grammar.specs.Parse.{ok, res}
-use Rattle.grammar.specs.Layout.{levels, notes}
-use Rattle.grammar.specs.Pieces.{Pieces, print, nodes, stored, layout}
+use Rattle.grammar.specs.Pieces.{Pieces, print, nodes}
 use Rattle.grammar.specs.Reader.{text_p}
 use Rattle.grammar.specs.Answer.{whole, read}
 use Rattle.lexemes.specs.Scan.{Reads}
 use Rattle.lexemes.proofs.Laws.{Law1}
 use Rattle.checking.specs.declared.counter.Counter.{Counter}
 use Rattle.checking.specs.declared.extent.Extent.{Extent}
-use Rattle.refusal.specs.declared.Refusal.{Refusal}
 use Rattle.refusal.specs.declared.Refusal.TheVariants as refusal
 use Rattle.text.specs.Events.{events}
 use Rattle.checking.specs.Counted.{Counted}
@@ -17,6 +15,13 @@ use Rattle.checking.specs.Checked.{extent_of, judged, checked}
 use Rattle.text.proofs.Spells.{says_text}
 use Rattle.text.proofs.Firm.{Sure1, Fine, fine_text}
 use Rattle.checking.proofs.Tallies.{nodes_counted, stored_counted, notes_counted, levels_counted}
+
+-- extents with the same figures
+same : (e x : Extent) → e.nodes ≡ x.nodes → e.stored ≡ x.stored → e.levels ≡ x.levels → e.comments ≡ x.comments → e ≡ x
+same e x n t l m = go
+  where
+    go : ◌≡◌ {A = Extent} (record { nodes = e.nodes; stored = e.stored; levels = e.levels; comments = e.comments }) (record { nodes = x.nodes; stored = x.stored; levels = x.levels; comments = x.comments })
+    go = cc
 
 module _ (s : List ℕ) (short : length s ≤ 1048576) where
   taken : checked s ≡ judged (read 64 s)
@@ -40,15 +45,10 @@ module _ (s : List ℕ) (short : length s ≤ 1048576) where
     small = omega (arith, ap length prints)
 
     -- a reader that does, and what a counter has counted
-    pub finished : (b : Counter) → Counted (record { nodes = 1; stored = 0; comments = 0; depth = 0; levels = 0 }) (events a) b
-        → Ok (record { nodes = b.nodes; stored = b.stored; levels = b.levels; comments = b.comments }) ≡ checked s
+    pub finished : (b : Counter) → Counted (record { seen = record { nodes = 1; stored = 0; levels = 0; comments = 0 }; depth = 0 }) (events a) b → Ok b.seen ≡ checked s
     finished b c =
         let n = c.nodes ∙ nodes_counted a few small in
         let t = c.stored ∙ stored_counted a few small in
         let l = ap (λ z. z.1) (c.levels ∙ levels_counted a few small) in
         let m = c.comments ∙ notes_counted a few small in
-        same b n t l m ∙ sym (taken ∙ ap (λ z. judged (whole s z)) at_end)
-      where
-        same : (b : Counter) → b.nodes ≡ suc (nodes a) → b.stored ≡ length (stored a) → b.levels ≡ levels (layout a) → b.comments ≡ length (notes (layout a))
-            → ◌≡◌ {A = Result Extent Refusal} (Ok (record { nodes = b.nodes; stored = b.stored; levels = b.levels; comments = b.comments })) (Ok (extent_of a))
-        same b n t l m = cc
+        ap Ok (same b.seen (extent_of a) n t l m) ∙ sym (taken ∙ ap (λ z. judged (whole s z)) at_end)

@@ -55,13 +55,13 @@ level_step x (Enter k) = (plus x.0 (level k), max x.1 (plus x.0 (level k)))
 level_step x (Leave k) = (x.0 - level k, x.1)
 
 abbrev pub depths : Counter → ℕ × ℕ
-depths c = (c.depth, c.levels)
+depths c = (c.depth, c.seen.levels)
 
 -- a counter a that was told the events is b
 pub record Counted (a : Counter) (es : List Event) (b : Counter) : Type 0 where
-  pub nodes : b.nodes ≡ fold node_step a.nodes es
-  pub stored : b.stored ≡ fold byte_step a.stored es
-  pub comments : b.comments ≡ fold note_step a.comments es
+  pub nodes : b.seen.nodes ≡ fold node_step a.seen.nodes es
+  pub stored : b.seen.stored ≡ fold byte_step a.seen.stored es
+  pub comments : b.seen.comments ≡ fold note_step a.seen.comments es
   pub levels : depths b ≡ fold level_step (depths a) es
 
 pub fold_app : {A : Type 0} (f : A → Event → A) (a : A) (x y : List Event) → fold f (fold f a x) y ≡ fold f a (x ++ y)
@@ -75,8 +75,8 @@ still a = record { nodes = refl; stored = refl; comments = refl; levels = refl }
 -- told in two parts
 pub onward : (a b c : Counter) (x y : List Event) → Counted a x b → Counted b y c → Counted a (x ++ y) c
 onward a b c x y h k = record {
-  nodes = k.nodes ∙ ap (λ n. fold node_step n y) h.nodes ∙ fold_app node_step a.nodes x y;
-  stored = k.stored ∙ ap (λ n. fold byte_step n y) h.stored ∙ fold_app byte_step a.stored x y;
-  comments = k.comments ∙ ap (λ n. fold note_step n y) h.comments ∙ fold_app note_step a.comments x y;
+  nodes = k.nodes ∙ ap (λ n. fold node_step n y) h.nodes ∙ fold_app node_step a.seen.nodes x y;
+  stored = k.stored ∙ ap (λ n. fold byte_step n y) h.stored ∙ fold_app byte_step a.seen.stored x y;
+  comments = k.comments ∙ ap (λ n. fold note_step n y) h.comments ∙ fold_app note_step a.seen.comments x y;
   levels = k.levels ∙ ap (λ n. fold level_step n y) h.levels ∙ fold_app level_step (depths a) x y;
 }

@@ -10,38 +10,25 @@ use text::sink::{Container, LeafKind, Sink};
 /// Counts what it is told; a count that is full stays so.
 #[derive(Clone, Copy)]
 pub struct Counter {
-    pub nodes: usize,
-    pub stored: usize,
-    pub comments: usize,
+    /// what it has counted
+    pub seen: Extent,
     /// how deep the reader stands
     pub depth: usize,
-    /// how deep it has stood
-    pub levels: usize,
 }
 
 impl Counter {
     /// A counter that has seen the root of a document.
     pub fn new() -> Counter
-        ensures { result ≡ record { nodes = 1; stored = 0; comments = 0; depth = 0; levels = 0 } }
+        ensures { result ≡ record { seen = record { nodes = 1; stored = 0; levels = 0; comments = 0 }; depth = 0 } }
     {
         Counter {
-            nodes: 1,
-            stored: 0,
-            comments: 0,
+            seen: Extent {
+                nodes: 1,
+                stored: 0,
+                levels: 0,
+                comments: 0,
+            },
             depth: 0,
-            levels: 0,
-        }
-    }
-
-    /// What it has counted.
-    pub fn extent(&self) -> Extent
-        ensures { result ≡ record { nodes = self.now.nodes; stored = self.now.stored; levels = self.now.levels; comments = self.now.comments } }
-    {
-        Extent {
-            nodes: self.nodes,
-            stored: self.stored,
-            levels: self.levels,
-            comments: self.comments,
         }
     }
 }
@@ -68,15 +55,15 @@ impl Sink for Counter {
     ghost joined = { onward };
 
     fn put(&mut self, kind: LeafKind, bytes: &[u8]) {
-        self.nodes = self.nodes.saturating_add(1);
-        self.stored = self.stored.saturating_add(kind.kept(bytes).len());
-        self.comments = self.comments.saturating_add(comments_of(kind));
+        self.seen.nodes = self.seen.nodes.saturating_add(1);
+        self.seen.stored = self.seen.stored.saturating_add(kind.kept(bytes).len());
+        self.seen.comments = self.seen.comments.saturating_add(comments_of(kind));
     }
 
     fn enter(&mut self, container: Container) {
-        self.nodes = self.nodes.saturating_add(1);
+        self.seen.nodes = self.seen.nodes.saturating_add(1);
         self.depth = self.depth.saturating_add(levels_of(container));
-        self.levels = self.levels.max(self.depth);
+        self.seen.levels = self.seen.levels.max(self.depth);
     }
 
     fn leave(&mut self, container: Container) {

@@ -28,7 +28,7 @@ pub fn check_text(text: &[u8]) -> Result<Extent, Refusal>
     }
     let mut counter = Counter::new();
     match read_text(text, &mut counter) {
-        Ok([]) => Ok(counter.extent()),
+        Ok([]) => Ok(counter.seen),
         Ok(rest) | Err(Fault::Bad(rest)) => Err(Refusal::BadText(text.len() - rest.len())),
         Err(Fault::Deep) => Err(Refusal::TooDeep),
     }

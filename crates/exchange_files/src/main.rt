@@ -3,6 +3,7 @@
 
 use std::io;
 
+// The same program as `exchange`: the gate gives a crate one set of words and files, so a second run is a second crate.
 fn main(rt: HostRuntime) -> io::Result<()> {
     desk::run(&rt)
 }

@@ -30,6 +30,13 @@ turn_ext (inr t) = []
 abbrev Raw : Type 0
 Raw = (ℕ × (ℕ ⊎ Unit {0})) ⊎ List ℕ
 
+-- a slash if one follows, and a star with that behind it
+abbrev pub slash_p : Parser (ℕ ⊎ Unit {0})
+slash_p = alt_p (only 47) (one_p (only 47)) eps_p
+
+abbrev pub starred_p : Parser (ℕ × (ℕ ⊎ Unit {0}))
+starred_p = seq_p (one_p (only 42)) slash_p
+
 abbrev SlashL : Lang (ℕ ⊎ Unit {0})
 SlashL = alt_l (one_l (only 47)) eps_l
 
@@ -41,8 +48,8 @@ abbrev slash_ext : ℕ ⊎ Unit {0} → Class
 slash_ext (inl b) = []
 slash_ext (inr e) = only 47
 
-slash_laws : Laws SlashL (alt_p (only 47) (one_p (only 47)) eps_p) (only 47) slash_null slash_ext
-slash_laws = Rattle.grammar.proofs.Laws.wide_laws SlashL (alt_p (only 47) (one_p (only 47)) eps_p) (only 47) _ slash_null _ slash_ext
+slash_laws : Laws SlashL slash_p (only 47) slash_null slash_ext
+slash_laws = Rattle.grammar.proofs.Laws.wide_laws SlashL slash_p (only 47) _ slash_null _ slash_ext
     (alt_laws (one_l (only 47)) (one_p (only 47)) (only 47) (λ _. false) (λ _. []) (one_laws (only 47) 47 refl) eps_l eps_p [] (λ _. true) (λ _. []) eps_laws (λ a. refl) refl) nul ext
   where
     nul : (x : ℕ ⊎ Unit {0}) → alt_null (one_l (only 47)) (one_p (only 47)) (only 47) (λ _. false) (λ _. []) (one_laws (only 47) 47 refl) eps_l eps_p [] (λ _. true) (λ _. []) eps_laws x ≡ true → slash_null x ≡ true
@@ -62,9 +69,9 @@ star_null x = false
 abbrev star_more : ℕ × (ℕ ⊎ Unit {0}) → Class
 star_more x = slash_ext x.1
 
-star_laws : Laws StarL (seq_p (one_p (only 42)) (alt_p (only 47) (one_p (only 47)) eps_p)) (only 42) star_null star_more
-star_laws = Rattle.grammar.proofs.Laws.wide_laws StarL (seq_p (one_p (only 42)) (alt_p (only 47) (one_p (only 47)) eps_p)) (only 42) _ star_null _ star_more
-    (seq_laws (one_l (only 42)) (one_p (only 42)) (only 42) (λ _. false) (λ _. []) (one_laws (only 42) 42 refl) SlashL (alt_p (only 47) (one_p (only 47)) eps_p) (only 47) slash_null slash_ext slash_laws false (λ a h. h) (λ a. refl) (inr tt) [] refl)
+star_laws : Laws StarL starred_p (only 42) star_null star_more
+star_laws = Rattle.grammar.proofs.Laws.wide_laws StarL starred_p (only 42) _ star_null _ star_more
+    (seq_laws (one_l (only 42)) (one_p (only 42)) (only 42) (λ _. false) (λ _. []) (one_laws (only 42) 42 refl) SlashL slash_p (only 47) slash_null slash_ext slash_laws false (λ a h. h) (λ a. refl) (inr tt) [] refl)
     (λ x e. e) ext
   where
     ext : (x : ℕ × (ℕ ⊎ Unit {0})) (u t : List ℕ) → StarL x u → Free (star_more x) t → Free (slash_ext x.1 ++ cond (slash_null x.1) [] []) t
@@ -126,16 +133,16 @@ turn_from (inl t) u l = elim (char_cases l.1) [
 turn_from (inr t) u l = (inl (42, inl 47), ap inr (sym (l.0 ∙ l.1)), (42 ∷ [], 47 ∷ [], l.1, (refl, refl), (refl, refl)))
 
 abbrev turn_p : Parser Raw
-turn_p = alt_p (only 42) (seq_p (one_p (only 42)) (alt_p (only 47) (one_p (only 47)) eps_p)) (char_p InBlock)
+turn_p = alt_p (only 42) starred_p (char_p InBlock)
 
 abbrev raw_null : Raw → Bool
-raw_null x = alt_null StarL (seq_p (one_p (only 42)) (alt_p (only 47) (one_p (only 47)) eps_p)) (only 42) star_null star_more star_laws CharL (char_p InBlock) (InBlock ++ MultiFirst) (λ _. false) (λ _. []) in_block x
+raw_null x = alt_null StarL starred_p (only 42) star_null star_more star_laws CharL (char_p InBlock) (InBlock ++ MultiFirst) (λ _. false) (λ _. []) in_block x
 
 abbrev raw_ext : Raw → Class
-raw_ext x = alt_ext StarL (seq_p (one_p (only 42)) (alt_p (only 47) (one_p (only 47)) eps_p)) (only 42) star_null star_more star_laws CharL (char_p InBlock) (InBlock ++ MultiFirst) (λ _. false) (λ _. []) in_block x
+raw_ext x = alt_ext StarL starred_p (only 42) star_null star_more star_laws CharL (char_p InBlock) (InBlock ++ MultiFirst) (λ _. false) (λ _. []) in_block x
 
 raw_laws : Laws (alt_l StarL CharL) turn_p (only 42 ++ (InBlock ++ MultiFirst)) raw_null raw_ext
-raw_laws = alt_laws StarL (seq_p (one_p (only 42)) (alt_p (only 47) (one_p (only 47)) eps_p)) (only 42) star_null star_more star_laws CharL (char_p InBlock) (InBlock ++ MultiFirst) (λ _. false) (λ _. []) in_block (λ a. refl) refl
+raw_laws = alt_laws StarL starred_p (only 42) star_null star_more star_laws CharL (char_p InBlock) (InBlock ++ MultiFirst) (λ _. false) (λ _. []) in_block (λ a. refl) refl
 
 turn_null_lem : (a : Raw) → raw_null a ≡ true → false ≡ true
 turn_null_lem (inl x) e = e
@@ -169,7 +176,7 @@ Fine (res (ok (inr a)) t) = Unit {0}
 Fine (res bad t) = Unit {0}
 Fine (res deep t) = Unit {0}
 
-fine_slash : (b : ℕ) (t : List ℕ) → Fine (map_r block_turn (map_r inl (map_r (λ x. (b, x)) (alt_p (only 47) (one_p (only 47)) eps_p t))))
+fine_slash : (b : ℕ) (t : List ℕ) → Fine (map_r block_turn (map_r inl (map_r (λ x. (b, x)) (slash_p t))))
 fine_slash b [] = free_none []
 fine_slash b (c ∷ t) = go (within (only 47) c) refl
   where
@@ -194,11 +201,11 @@ fine : (s : List ℕ) → Fine (block_turn_p s)
 fine [] = tt
 fine (b ∷ t) = go (within (only 42) b) refl
   where
-    star : (v : Bool) → Fine (map_r block_turn (map_r inl (bind (alt_p (only 47) (one_p (only 47)) eps_p) (cond v (res (ok b) t) (res bad (b ∷ t))))))
+    star : (v : Bool) → Fine (map_r block_turn (map_r inl (bind slash_p (cond v (res (ok b) t) (res bad (b ∷ t))))))
     star true = fine_slash b t
     star false = tt
 
-    go : (v : Bool) → within (only 42) b ≡ v → Fine (map_r block_turn (pick v (seq_p (one_p (only 42)) (alt_p (only 47) (one_p (only 47)) eps_p)) (char_p InBlock) (b ∷ t)))
+    go : (v : Bool) → within (only 42) b ≡ v → Fine (map_r block_turn (pick v starred_p (char_p InBlock) (b ∷ t)))
     go true e = star (within (only 42) b)
     go false e = fine_char (b ∷ t) (char_p InBlock (b ∷ t)) (in_block.means (b ∷ t))
 

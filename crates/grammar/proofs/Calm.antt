@@ -1,15 +1,15 @@
 -- Parsers that never nest too deep, and how much every parser leaves. Assumes nothing.
-use Rattle.std.proofs.Common.{◌≡◌, ℕ, zero, suc, ◌<◌, ◌≤◌, Bool, true, false, cond, ◌⊎◌, List, [], ◌∷◌, ◌++◌, length, refl, ap, ◌∙◌, subst, inl, inr, arith, length-append}
+use Rattle.std.proofs.Common.{◌≡◌, ℕ, zero, suc, ◌<◌, ◌≤◌, Bool, true, false, cond, ◌⊎◌, List, [], ◌∷◌, ◌++◌, length, refl, ap, ◌∙◌, inl, inr, arith, length-append}
 use Rattle.grammar.specs.Parse.{ok, bad, deep, Res, res, map_r, Lang, Parser, Class, within, starts, one_p, eps_p, bind, seq_p, pick, alt_p, map_p, onto, turn, loop, iter_p}
 use Rattle.grammar.specs.Classes.{only, Tail, MultiFirst, Digit, Digit1To9, Exponent, Signs, Hex, Escaped, Plain, Blank, LineEnd, InLine, InBlock, Gap}
 use Rattle.grammar.specs.Pieces.{Leaf, null, boolean, token, newline, whitespace, string, number, Token, token_byte, line_feed}
 use Rattle.grammar.specs.Reader.{either, or_p, byte_p, empty_p, cat_p, word_p, run_p, concats, many_p, tail_p, two_p, three_p, four_p, multi_p, char_p, chars_p, minus_p, digits_p, int_p, frac_p, power_p, exp_p, number_p, hex_p, unicode_p, escape_p, string_char_p, StringFirst, string_p, block_turn, block_turn_p, block_p, nothing_p, joins, only_leaf, token_p, space_p, returned, return_p, newline_p, line_end_p, comment_of, comment_p, plain_p, piece_p, unit_p, trivia_p, string_leaf_p, number_leaf_p, literal_p, null_p, true_p, false_p, scalar_p}
-use Rattle.grammar.proofs.Laws.{Laws, Means, shorter}
+use Rattle.grammar.proofs.Laws.{Laws, Means, progress}
 use Rattle.grammar.proofs.Bytes.{ByteLaws, unit_laws as many_unit, TurnL as ManyL, unit_null_lem, unit_ext_lem}
 use Rattle.grammar.specs.Grammar.{Char, StringChar}
 use Rattle.grammar.proofs.Chars.{char_laws, strchar_laws}
-use Rattle.grammar.proofs.Blocks.{TurnL, turn_laws, turn_null, turn_ext, BlockFirst}
-use Rattle.grammar.proofs.Trivias.{unit_ext}
+use Rattle.grammar.proofs.Blocks.{slash_p, starred_p, TurnL, turn_laws, turn_null, turn_ext, BlockFirst}
+use Rattle.grammar.proofs.Trivias.{feed_p, unit_ext}
 use Rattle.grammar.proofs.Gaps.{UnitL, unit_laws, unit_null}
 
 abbrev pub rest : {A : Type 0} → Res A → List ℕ
@@ -28,9 +28,6 @@ rest_le L p s (res o t) m = (let f = ap length m.1 ∙ length-append m.0 t in om
 
 pub shrinks : {A : Type 0} (L : Lang A) (p : Parser A) (first : Class) (nl : A → Bool) (ext : A → Class) → Laws L p first nl ext → Shrinks p
 shrinks L p first nl ext h s = rest_le L p s (p s) (h.means s)
-
-pub progress : {A B : Type 0} (L : Lang (A ⊎ B)) (p : Parser (A ⊎ B)) (first : Class) (nl : A ⊎ B → Bool) (ext : A ⊎ B → Class) → Laws L p first nl ext → ((a : A) → nl (inl a) ≡ false) → Progress p
-progress L p first nl ext h go s a t e = (let m = subst (Means L p s) e (h.means s) in shorter L p first nl ext h go a s m.0 t m.1 m.2)
 
 -- the answer is not that the text nests too deep
 abbrev pub NoDeep : {A : Type 0} → Res A → Type 0
@@ -170,7 +167,7 @@ calm_string =
 
 calm_block : Calm block_p
 calm_block = calm_map (λ x. concats x.0 x.1) (iter_p block_turn_p) (calm_iter block_turn_p
-    (calm_map block_turn (alt_p (only 42) (seq_p (one_p (only 42)) (alt_p (only 47) (one_p (only 47)) eps_p)) (char_p InBlock)) (calm_alt (only 42) (seq_p (one_p (only 42)) (alt_p (only 47) (one_p (only 47)) eps_p)) (char_p InBlock) (calm_seq (one_p (only 42)) (alt_p (only 47) (one_p (only 47)) eps_p) (calm_one (only 42)) (calm_alt (only 47) (one_p (only 47)) eps_p (calm_one (only 47)) calm_eps)) (calm_char InBlock)))
+    (calm_map block_turn (alt_p (only 42) starred_p (char_p InBlock)) (calm_alt (only 42) starred_p (char_p InBlock) (calm_seq (one_p (only 42)) slash_p (calm_one (only 42)) (calm_alt (only 47) (one_p (only 47)) eps_p (calm_one (only 47)) calm_eps)) (calm_char InBlock)))
     (progress TurnL block_turn_p BlockFirst turn_null turn_ext turn_laws (λ a. refl)))
 
 -- pieces
@@ -180,7 +177,7 @@ calm_token m = calm_map (λ _. only_leaf (token m)) (one_p (only (token_byte m))
 calm_newline : Calm newline_p
 calm_newline = calm_or (only 10) (map_p (λ _. only_leaf (newline line_feed)) (one_p (only 10))) return_p
     (calm_map (λ _. only_leaf (newline line_feed)) (one_p (only 10)) (calm_one (only 10)))
-    (calm_map returned (seq_p (one_p (only 13)) (alt_p (only 10) (one_p (only 10)) eps_p)) (calm_seq (one_p (only 13)) (alt_p (only 10) (one_p (only 10)) eps_p) (calm_one (only 13)) (calm_alt (only 10) (one_p (only 10)) eps_p (calm_one (only 10)) calm_eps)))
+    (calm_map returned (seq_p (one_p (only 13)) feed_p) (calm_seq (one_p (only 13)) feed_p (calm_one (only 13)) (calm_alt (only 10) (one_p (only 10)) eps_p (calm_one (only 10)) calm_eps)))
 
 calm_end : (last : Bool) → Calm (line_end_p last)
 calm_end true = calm_alt LineEnd newline_p eps_p calm_newline calm_eps

@@ -7,8 +7,8 @@ use Rattle.grammar.specs.Classes.{only, Gap}
 use Rattle.grammar.specs.Grammar.{Frame, brackets, braces, closer}
 use Rattle.grammar.specs.Pieces.{Pieces, end, box, join, property, Token, comma, colon, name, token, token_byte}
 use Rattle.grammar.specs.Reader.{either, or_p, nothing_p, then_p, ahead, after_p, joins, only_leaf, string_p, token_p, trivia_p, scalar_p, open_token, close_token, box_of, end_p, name_p, member_p, item_p, turn_p, items_p, container_p, nested_p, value_p, ValueFirst, text_p}
-use Rattle.grammar.proofs.Laws.{Laws}
-use Rattle.grammar.proofs.Calm.{rest, Shrinks, shrinks, Progress, progress, NoDeep, Calm, calm_map, calm_alt, calm_string, calm_token, calm_nothing, calm_trivia, calm_scalar}
+use Rattle.grammar.proofs.Laws.{Laws, progress}
+use Rattle.grammar.proofs.Calm.{rest, Shrinks, shrinks, Progress, NoDeep, Calm, calm_map, calm_alt, calm_string, calm_token, calm_nothing, calm_trivia, calm_scalar}
 use Rattle.grammar.proofs.Chars.{NumberMore}
 use Rattle.grammar.proofs.Gaps.{TriviaL, trivia_laws, trail}
 use Rattle.grammar.proofs.Values.{ValueL, value_laws, some_value, TurnL, turn_laws}

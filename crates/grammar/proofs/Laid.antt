@@ -32,19 +32,19 @@ abbrev pub flag : Bool → Between → Between
 flag true g = broken g
 flag false g = g
 
-broken_twice : (g : Between) → broken (broken g) ≡ broken g
+pub broken_twice : (g : Between) → broken (broken g) ≡ broken g
 broken_twice (quiet b) = refl
 broken_twice (remark b c g) = refl
 
-flag_broken : (b : Bool) (g : Between) → flag b (broken g) ≡ broken g
+pub flag_broken : (b : Bool) (g : Between) → flag b (broken g) ≡ broken g
 flag_broken true g = broken_twice g
 flag_broken false g = refl
 
-after_quiet : (b : Bool) (k : Bool → Layout) → after (flag b (quiet false)) k ≡ k b
+pub after_quiet : (b : Bool) (k : Bool → Layout) → after (flag b (quiet false)) k ≡ k b
 after_quiet true k = refl
 after_quiet false k = refl
 
-after_remark : (b : Bool) (c : Comment) (g : Between) (k : Bool → Layout) → after (flag b (remark false c g)) k ≡ note b c (after g k)
+pub after_remark : (b : Bool) (c : Comment) (g : Between) (k : Bool → Layout) → after (flag b (remark false c g)) k ≡ note b c (after g k)
 after_remark true c g k = refl
 after_remark false c g k = refl
 
@@ -63,12 +63,24 @@ pub record Laid (last : Bool) (a : Pieces) (u : List ℕ) : Type 0 where
   pub laid : (r : Pieces) (b : Bool) → lay (join a r) b ≡ after (flag b gap) (lay r)
   pub printed : print a ≡ u
 
-blanks_on : (last : Bool) (g : Between) (u v : List ℕ) → All Blank u → Trivia last g v → Trivia last g (u ++ v)
+pub blanks_on : (last : Bool) (g : Between) (u v : List ℕ) → All Blank u → Trivia last g v → Trivia last g (u ++ v)
 blanks_on last g [] v h t = t
 blanks_on last g (b ∷ u) v h t = blank b h.0 (blanks_on last g u v h.1 t)
 
-blanks_all : (u : List ℕ) → Blanks u → All Blank u
+pub blanks_all : (u : List ℕ) → Blanks u → All Blank u
 blanks_all u l = subst (All Blank) (sym (l.2 ∙ ap (λ y. y ++ l.1) l.3.1)) (l.3.2, l.4)
+
+-- a line break, and a line comment with one, in front of trivia
+module _ {last : Bool} {g : Between} {s : List ℕ} (i : Trivia last g s) where
+  pub break_trivia : (k : Break) → Trivia last (broken g) (break_bytes k ++ s)
+  break_trivia line_feed = newline 10 refl i
+  break_trivia carriage_return = newline 13 refl i
+  break_trivia both = subst (λ y. Trivia last y (13 ∷ 10 ∷ s)) (broken_twice g) (newline 13 refl (newline 10 refl i))
+
+  pub line_trivia : (t : List ℕ) (k : Break) → LineComment t → Trivia last (remark false (Line t) (broken g)) (t ++ (break_bytes k ++ s))
+  line_trivia t line_feed h = line_comment 10 h refl i
+  line_trivia t carriage_return h = line_comment 13 h refl i
+  line_trivia t both h = subst (λ y. Trivia last (remark false (Line t) y) (t ++ 13 ∷ 10 ∷ s)) (broken_twice g) (line_comment 13 h refl (newline 10 refl i))
 
 module _ (last : Bool) (r : Pieces) (w : List ℕ) (m : Laid last r w) where
   space_on : (v : List ℕ) → Blanks v → Laid last (leaf (whitespace v) r) (v ++ w)
@@ -79,15 +91,10 @@ module _ (last : Bool) (r : Pieces) (w : List ℕ) (m : Laid last r w) where
     printed = ap (λ y. v ++ y) m.printed;
   }
 
-  break_trivia : (k : Break) → Trivia last (broken m.gap) (break_bytes k ++ w)
-  break_trivia line_feed = newline 10 refl m.trivia
-  break_trivia carriage_return = newline 13 refl m.trivia
-  break_trivia both = subst (λ y. Trivia last y (13 ∷ 10 ∷ w)) (broken_twice m.gap) (newline 13 refl (newline 10 refl m.trivia))
-
   newline_on : (k : Break) → Laid last (leaf (break k) r) (break_bytes k ++ w)
   newline_on k = record {
     gap = broken m.gap;
-    trivia = break_trivia k;
+    trivia = break_trivia m.trivia k;
     laid = λ z b. m.laid z true ∙ ap (λ y. after y (lay z)) (sym (flag_broken b m.gap));
     printed = ap (λ y. break_bytes k ++ y) m.printed;
   }
@@ -100,15 +107,10 @@ module _ (last : Bool) (r : Pieces) (w : List ℕ) (m : Laid last r w) where
     printed = ap (λ y. t ++ y) m.printed;
   }
 
-  line_trivia : (t : List ℕ) (k : Break) → LineComment t → Trivia last (remark false (Line t) (broken m.gap)) (t ++ (break_bytes k ++ w))
-  line_trivia t line_feed h = line_comment 10 h refl m.trivia
-  line_trivia t carriage_return h = line_comment 13 h refl m.trivia
-  line_trivia t both h = subst (λ y. Trivia last (remark false (Line t) y) (t ++ 13 ∷ 10 ∷ w)) (broken_twice m.gap) (line_comment 13 h refl (newline 10 refl m.trivia))
-
   line_on : (t : List ℕ) (k : Break) → LineComment t → Laid last (leaf (comment (Line t)) (leaf (break k) r)) (t ++ (break_bytes k ++ w))
   line_on t k h = record {
     gap = remark false (Line t) (broken m.gap);
-    trivia = line_trivia t k h;
+    trivia = line_trivia m.trivia t k h;
     laid = λ z b. ap (note b (Line t)) (m.laid z true) ∙ sym (after_remark b (Line t) (broken m.gap) (lay z));
     printed = ap (λ y. t ++ (break_bytes k ++ y)) m.printed;
   }

@@ -245,6 +245,16 @@ conv_laws f L M p first null ext h to from null2 ext2 hn he =
     say_laws (map_l f L) M (map_p f p) first null2 ext2 (map_laws f L p first null ext h null2 ext2 hn he)
     (λ b u l. subst (λ y. M y u) l.1 (to l.0 u l.2)) from
 
+-- what a first part rests on that is all, the whole rests on
+seq_early : {A B : Type 0} (p : Parser A) (q : Parser B) (u : List ℕ) (o : Out A) (o2 : Out (A × B)) (t : List ℕ) → ((r : List ℕ) → bind q (res o r) ≡ res o2 r) → Again p u o t → Again (seq_p p q) u o2 t
+seq_early p q u o o2 [] f z = tt
+seq_early p q u o o2 (b ∷ t) f z = λ w. ap (bind q) (z w) ∙ f (b ∷ w)
+
+-- what a second part rests on, the whole rests on
+seq_again : {A B : Type 0} (p : Parser A) (q : Parser B) (a : A) (u v t r : List ℕ) (o : Out B) → Again p u (ok a) t → t ≡ v ++ r → Again q v o r → Again (seq_p p q) (u ++ v) (map_o (λ b. (a, b)) o) r
+seq_again p q a u v t [] o h e z = tt
+seq_again p q a u v t (b ∷ r) o h e z = λ w. rw append_assoc (ap (bind q) (carry p u (ok a) t h v b r e w) ∙ ap (map_r (λ b. (a, b))) (z w))
+
 -- one after the other
 module _ {A B : Type 0} (L : Lang A) (p : Parser A) (first : Class) (null : A → Bool) (ext : A → Class) (h : Laws L p first null ext) (M : Lang B) (q : Parser B) (first2 : Class) (null2 : B → Bool) (ext2 : B → Class) (k : Laws M q first2 null2 ext2) where
   seq_second : (s : List ℕ) (a : A) (t : List ℕ) → Means L p s (res (ok a) t) → (y : Res B) → Means M q t y → Means (seq_l L M) (seq_p p q) s (map_r (λ b. (a, b)) y)
@@ -252,13 +262,9 @@ module _ {A B : Type 0} (L : Lang A) (p : Parser A) (first : Class) (null : A �
     m.0 ++ n.0,
     m.1 ∙ ap (λ y. m.0 ++ y) n.1 ∙ sym (append_assoc m.0 n.0 r),
     says_map M (seq_l L M) (λ b. (a, b)) n.0 (m.0 ++ n.0) (λ b w l. (m.0, n.0 ++ w, append_assoc m.0 n.0 w, m.2, l)) o n.2,
-    ag r n.1 n.3,
+    seq_again p q a m.0 n.0 t r o m.3 n.1 n.3,
     halts_map (λ b. (a, b)) o r n.4,
   )
-    where
-      ag : (r : List ℕ) → t ≡ n.0 ++ r → Again q n.0 o r → Again (seq_p p q) (m.0 ++ n.0) (map_o (λ b. (a, b)) o) r
-      ag [] e z = tt
-      ag (b ∷ r) e z = λ w. rw append_assoc (ap (bind q) (carry p m.0 (ok a) t m.3 n.0 b r e w) ∙ ap (map_r (λ b. (a, b))) (z w))
 
   seq_means : (c : B) (v : List ℕ) → M c v → (s : List ℕ) (x : Res A) → Means L p s x → Means (seq_l L M) (seq_p p q) s (bind q x)
   seq_means c v l s (res (ok a) t) m = seq_second s a t m (q t) (k.means t)
@@ -266,24 +272,16 @@ module _ {A B : Type 0} (L : Lang A) (p : Parser A) (first : Class) (null : A �
     m.0,
     m.1,
     (m.2.0 ++ v, (m.2.1, c), (m.0 ++ m.2.0, v, sym (append_assoc m.0 m.2.0 v), m.2.2, l)),
-    ag t m.3,
+    seq_early p q m.0 bad bad t (λ r. refl) m.3,
     tt,
   )
-    where
-      ag : (t : List ℕ) → Again p m.0 bad t → Again (seq_p p q) m.0 bad t
-      ag [] z = tt
-      ag (b ∷ t) z = λ w. ap (bind q) (z w)
   seq_means c v l s (res deep t) m = (
     m.0,
     m.1,
     (m.2.0 ++ v, (m.2.1, c), (m.0 ++ m.2.0, v, sym (append_assoc m.0 m.2.0 v), m.2.2, l)),
-    ag t m.3,
+    seq_early p q m.0 deep deep t (λ r. refl) m.3,
     m.4,
   )
-    where
-      ag : (t : List ℕ) → Again p m.0 deep t → Again (seq_p p q) m.0 deep t
-      ag [] z = tt
-      ag (b ∷ t) z = λ w. ap (bind q) (z w)
 
   abbrev pub seq_first : Bool → Class
   seq_first nl = first ++ cond nl first2 []
@@ -400,20 +398,12 @@ module _ {A B : Type 0} (L : Lang A) (p : Parser A) (first : Class) (null : A �
     m.0 ++ n.0,
     m.1 ∙ ap (λ y. m.0 ++ y) n.1 ∙ sym (append_assoc m.0 n.0 r),
     tied_says a m.0 n.0 r m.2 (subst (Free (ext a)) n.1 g) o n.2,
-    ag r n.1 n.3,
+    seq_again p q a m.0 n.0 t r o m.3 n.1 n.3,
     halts_map (λ b. (a, b)) o r n.4,
   )
-    where
-      ag : (r : List ℕ) → t ≡ n.0 ++ r → Again q n.0 o r → Again (seq_p p q) (m.0 ++ n.0) (map_o (λ b. (a, b)) o) r
-      ag [] e z = tt
-      ag (b ∷ r) e z = λ w. rw append_assoc (ap (bind q) (carry p m.0 (ok a) t m.3 n.0 b r e w) ∙ ap (map_r (λ b. (a, b))) (z w))
 
   tied_early : (s : List ℕ) (o : Out A) (o2 : Out (A × B)) (t : List ℕ) → ((r : List ℕ) → bind q (res o r) ≡ res o2 r) → (m : Means L p s (res o t)) → Says (tied_l L ext M) m.0 o2 → Halts o2 t → Means (tied_l L ext M) (seq_p p q) s (res o2 t)
-  tied_early s o o2 t f m y z = (m.0, m.1, y, ag t m.3, z)
-    where
-      ag : (t : List ℕ) → Again p m.0 o t → Again (seq_p p q) m.0 o2 t
-      ag [] z = tt
-      ag (b ∷ t) z = λ w. ap (bind q) (z w) ∙ f (b ∷ w)
+  tied_early s o o2 t f m y z = (m.0, m.1, y, seq_early p q m.0 o o2 t f m.3, z)
 
   tied_means : (s : List ℕ) (x : Res A) → p s ≡ x → Means L p s x → Means (tied_l L ext M) (seq_p p q) s (bind q x)
   tied_means s (res (ok a) t) e m = tied_second s a t (greedy s a t e) m (q t) (k.means t)
@@ -509,26 +499,32 @@ fine_any (res (ok a) t) = free_none t
 fine_any (res bad t) = tt
 fine_any (res deep t) = tt
 
+-- a loop whose turns that go on leave less than there was
+module _ {A B : Type 0} (p : Parser (A ⊎ B)) (less : (s : List ℕ) (a : A) (t : List ℕ) → p s ≡ res (ok (inl a)) t → length t < length s) where
+  turn_same : (j k : Parser (List A × B)) (s : List ℕ) (x : Res (A ⊎ B)) → p s ≡ x → ((t : List ℕ) → length t < length s → j t ≡ k t) → turn j x ≡ turn k x
+  turn_same j k s (res (ok (inl a)) t) e f = ap (map_r (onto a)) (f t (less s a t e))
+  turn_same j k s (res (ok (inr c)) t) e f = refl
+  turn_same j k s (res bad t) e f = refl
+  turn_same j k s (res deep t) e f = refl
+
+  loop_same : (f g : ℕ) (s : List ℕ) → length s < f → length s < g → loop f p s ≡ loop g p s
+  loop_same zero g s hf hg = absurd (omega arith)
+  loop_same (suc f) zero s hf hg = absurd (omega arith)
+  loop_same (suc f) (suc g) s hf hg = turn_same (loop f p) (loop g p) s (p s) refl (λ t lt. loop_same f g t (omega arith) (omega arith))
+
+  -- the first turn, and then the rest
+  pub iter_turn : (s : List ℕ) → iter_p p s ≡ turn (iter_p p) (p s)
+  iter_turn s = turn_same (loop (length s) p) (iter_p p) s (p s) refl (λ t lt. loop_same (length s) (suc (length t)) t lt (omega arith))
+
 -- again and again
 module _ {A B : Type 0} (L : Lang (A ⊎ B)) (p : Parser (A ⊎ B)) (first : Class) (null : A ⊎ B → Bool) (ext : A ⊎ B → Class) (h : Laws L p first null ext) (go_on : (a : A) → null (inl a) ≡ false) where
   -- a turn that goes on has read something
-  pub shorter : (a : A) (s u t : List ℕ) → s ≡ u ++ t → L (inl a) u → length t < length s
+  shorter : (a : A) (s u t : List ℕ) → s ≡ u ++ t → L (inl a) u → length t < length s
   shorter a s [] t e l = absurd (false≢true (sym (go_on a) ∙ h.null_ok (inl a) l))
   shorter a s (b ∷ u) t e l = rw e (simp length-append (omega arith))
 
-  turn_same : (j k : Parser (List A × B)) (s : List ℕ) (x : Res (A ⊎ B)) → Means L p s x → ((t : List ℕ) → length t < length s → j t ≡ k t) → turn j x ≡ turn k x
-  turn_same j k s (res (ok (inl a)) t) m f = ap (map_r (onto a)) (f t (shorter a s m.0 t m.1 m.2))
-  turn_same j k s (res (ok (inr c)) t) m f = refl
-  turn_same j k s (res bad t) m f = refl
-  turn_same j k s (res deep t) m f = refl
-
-  pub loop_same : (f g : ℕ) (s : List ℕ) → length s < f → length s < g → loop f p s ≡ loop g p s
-  loop_same zero g s hf hg = absurd (omega arith)
-  loop_same (suc f) zero s hf hg = absurd (omega arith)
-  loop_same (suc f) (suc g) s hf hg = turn_same (loop f p) (loop g p) s (p s) (h.means s) (λ t lt. loop_same f g t (omega arith) (omega arith))
-
-  pub iter_turn : (s : List ℕ) → iter_p p s ≡ turn (iter_p p) (p s)
-  iter_turn s = turn_same (loop (length s) p) (iter_p p) s (p s) (h.means s) (λ t lt. loop_same (length s) (suc (length t)) t lt (omega arith))
+  pub progress : (s : List ℕ) (a : A) (t : List ℕ) → p s ≡ res (ok (inl a)) t → length t < length s
+  progress s a t e = (let m = subst (Means L p s) e (h.means s) in shorter a s m.0 t m.1 m.2)
 
   abbrev wide : A → Class
   wide a = ext (inl a)
@@ -557,7 +553,7 @@ module _ {A B : Type 0} (L : Lang (A ⊎ B)) (p : Parser (A ⊎ B)) (first : Cla
       ag [] e z = tt
       ag (b ∷ r) e z = λ w.
           ap (iter_p p) (append_assoc m.0 n.0 (b ∷ w))
-          ∙ iter_turn (m.0 ++ (n.0 ++ b ∷ w))
+          ∙ iter_turn p progress (m.0 ++ (n.0 ++ b ∷ w))
           ∙ ap (turn (iter_p p)) (carry p m.0 (ok (inl a)) t m.3 n.0 b r e w)
           ∙ ap (map_r (onto a)) (z w)
 
@@ -566,7 +562,7 @@ module _ {A B : Type 0} (L : Lang (A ⊎ B)) (p : Parser (A ⊎ B)) (first : Cla
     where
       ag : (t : List ℕ) → Again p m.0 o t → Again (iter_p p) m.0 o2 t
       ag [] z = tt
-      ag (b ∷ t) z = λ w. iter_turn (m.0 ++ b ∷ w) ∙ ap (turn (iter_p p)) (z w) ∙ f (b ∷ w)
+      ag (b ∷ t) z = λ w. iter_turn p progress (m.0 ++ b ∷ w) ∙ ap (turn (iter_p p)) (z w) ∙ f (b ∷ w)
 
   iter_finish : (c : B) (v : List ℕ) → L (inr c) v → ((a : A) → Free (ext (inl a)) v) → (u w : List ℕ) (x : A ⊎ B) → L x (u ++ w) → Says (iter_l L wide) u bad
   iter_finish c v l f u w (inl a) z = (w ++ v, (a ∷ [], c), (u ++ w, v, sym (append_assoc u w v), z, f a, l))
@@ -581,7 +577,7 @@ module _ {A B : Type 0} (L : Lang (A ⊎ B)) (p : Parser (A ⊎ B)) (first : Cla
   iter_means : (c : B) (v : List ℕ) → L (inr c) v → ((a : A) → Free (ext (inl a)) v) → Greedy → (n : ℕ) (s : List ℕ) → length s < n → Means (iter_l L wide) (iter_p p) s (iter_p p s)
   iter_means c v l f g zero s lt = absurd (omega arith)
   iter_means c v l f g (suc n) s lt =
-      subst (Means (iter_l L wide) (iter_p p) s) (sym (iter_turn s)) (iter_step c v l f s (p s) refl g (h.means s) (λ t lt2. iter_means c v l f g n t (omega arith)))
+      subst (Means (iter_l L wide) (iter_p p) s) (sym (iter_turn p progress s)) (iter_step c v l f s (p s) refl g (h.means s) (λ t lt2. iter_means c v l f g n t (omega arith)))
 
   abbrev pub iter_null : List A × B → Bool
   iter_null x = null (inr x.1)
@@ -610,11 +606,11 @@ module _ {A B : Type 0} (L : Lang (A ⊎ B)) (p : Parser (A ⊎ B)) (first : Cla
     behind a more c (b ∷ v) t g l f = g
 
     iter_complete : (more : List A) (c : B) (w t : List ℕ) → iterate L wide more c w → Free (iter_ext E (more, c)) t → iter_p p (w ++ t) ≡ res (ok (more, c)) t
-    iter_complete [] c w t l f = iter_turn (w ++ t) ∙ ap (turn (iter_p p)) (h.complete (inr c) w t l (free_left (ext (inr c)) (cond (null (inr c)) E []) t f))
+    iter_complete [] c w t l f = iter_turn p progress (w ++ t) ∙ ap (turn (iter_p p)) (h.complete (inr c) w t l (free_left (ext (inr c)) (cond (null (inr c)) E []) t f))
     iter_complete (a ∷ more) c w t l f =
         ap (λ y. iter_p p (y ++ t)) l.2
         ∙ ap (iter_p p) (append_assoc l.0 l.1 t)
-        ∙ iter_turn (l.0 ++ (l.1 ++ t))
+        ∙ iter_turn p progress (l.0 ++ (l.1 ++ t))
         ∙ ap (turn (iter_p p)) (h.complete (inl a) l.0 (l.1 ++ t) l.3 (behind a more c l.1 t l.4 l.5 f))
         ∙ ap (map_r (onto a)) (iter_complete more c l.1 t l.5 f)
 

@@ -29,18 +29,18 @@ pub record Ahead (L : Lang Pieces) (M : Lang (Pieces ⊎ Pieces)) (go : Pieces �
   pub fst : L a v
   pub snd : M (go d) w
 
-stops : (L : Lang Pieces) (M : Lang (Pieces ⊎ Pieces)) (c : Pieces) (u : List ℕ) → AheadL L M (inr c) u → Ahead L M inr c u
+pub stops : (L : Lang Pieces) (M : Lang (Pieces ⊎ Pieces)) (c : Pieces) (u : List ℕ) → AheadL L M (inr c) u → Ahead L M inr c u
 stops L M c u ((a, inl d), e, l) = (let z : ◌≡◌ {A = ℕ} 0 1 = cc in absurd (omega arith))
 stops L M c u ((a, inr d), e, l) = record { a = a; d = d; v = l.0; w = l.1; joined = cc; bytes = l.2; fst = l.3; snd = l.4 }
 
-goes : (L : Lang Pieces) (M : Lang (Pieces ⊎ Pieces)) (c : Pieces) (u : List ℕ) → AheadL L M (inl c) u → Ahead L M inl c u
+pub goes : (L : Lang Pieces) (M : Lang (Pieces ⊎ Pieces)) (c : Pieces) (u : List ℕ) → AheadL L M (inl c) u → Ahead L M inl c u
 goes L M c u ((a, inl d), e, l) = record { a = a; d = d; v = l.0; w = l.1; joined = cc; bytes = l.2; fst = l.3; snd = l.4 }
 goes L M c u ((a, inr d), e, l) = (let z : ◌≡◌ {A = ℕ} 0 1 = cc in absurd (omega arith))
 
-never_on : (f : Frame) (c : Pieces) (u : List ℕ) → CloseL f (inl c) u → ⊥
+pub never_on : (f : Frame) (c : Pieces) (u : List ℕ) → CloseL f (inl c) u → ⊥
 never_on f c u l = (let e = l.1 in let z : ◌≡◌ {A = ℕ} 0 1 = cc in omega arith)
 
-shut_of : (f : Frame) (c : Pieces) (u : List ℕ) → CloseL f (inr c) u → TokenL (close_token f) c u
+pub shut_of : (f : Frame) (c : Pieces) (u : List ℕ) → CloseL f (inr c) u → TokenL (close_token f) c u
 shut_of f c u l = (let e = l.1 in let i : l.0 ≡ c = cc in subst (λ y. TokenL (close_token f) y u) i l.2)
 
 pub closing : (f : Frame) (b : Bool) → lay (only_leaf (token (close_token f))) b ≡ shut b

@@ -291,7 +291,7 @@ value_open : (n : ℕ) (a : Pieces) (u v : List ℕ) → ValueL n a u → Free O
 value_open n a [] v l f = false≢true ((value_laws n).null_ok a l)
 value_open n a (b ∷ u) v l f = true≢false (sym (covers_ok OpenMore ValueFirst refl b ((value_laws n).first_ok a b u l)) ∙ f)
 
-front_trivia : (n : ℕ) (x a : Pieces) (u w v : List ℕ) → TriviaL true x u → Free (trail x) (w ++ v) → ValueL n a w → TriviaL false x u
+pub front_trivia : (n : ℕ) (x a : Pieces) (u w v : List ℕ) → TriviaL true x u → Free (trail x) (w ++ v) → ValueL n a w → TriviaL false x u
 front_trivia n x a u w v ((xs, c), e, l) f k = elim (close_run xs c u l) [
   | inl r ↦ ((xs, c), e, r)
   | inr z ↦ absurd (value_open n a w v k (subst (λ y. Free y (w ++ v)) (ap trail (sym e) ∙ trail_run true xs c u l ∙ z) f))

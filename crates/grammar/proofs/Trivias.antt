@@ -82,8 +82,8 @@ feed_laws = conv_laws (λ _. only_leaf (newline line_feed)) (one_l (only 10)) Fe
 abbrev ReturnL : Lang Pieces
 ReturnL a u = ((a ≡ only_leaf (newline both)) × (u ≡ 13 ∷ 10 ∷ [])) ⊎ ((a ≡ only_leaf (newline carriage_return)) × (u ≡ 13 ∷ []))
 
-abbrev maybe_feed : Parser (ℕ ⊎ Unit {0})
-maybe_feed = alt_p (only 10) (one_p (only 10)) eps_p
+abbrev pub feed_p : Parser (ℕ ⊎ Unit {0})
+feed_p = alt_p (only 10) (one_p (only 10)) eps_p
 
 abbrev MaybeL : Lang (ℕ ⊎ Unit {0})
 MaybeL = alt_l (one_l (only 10)) eps_l
@@ -94,7 +94,7 @@ maybe_null x = alt_null (one_l (only 10)) (one_p (only 10)) (only 10) (λ _. fal
 abbrev maybe_ext : ℕ ⊎ Unit {0} → Class
 maybe_ext x = alt_ext (one_l (only 10)) (one_p (only 10)) (only 10) (λ _. false) (λ _. []) (one_laws (only 10) 10 refl) eps_l eps_p [] (λ _. true) (λ _. []) eps_laws x
 
-maybe_laws : Laws MaybeL maybe_feed (only 10) maybe_null maybe_ext
+maybe_laws : Laws MaybeL feed_p (only 10) maybe_null maybe_ext
 maybe_laws = alt_laws (one_l (only 10)) (one_p (only 10)) (only 10) (λ _. false) (λ _. []) (one_laws (only 10) 10 refl) eps_l eps_p [] (λ _. true) (λ _. []) eps_laws (λ a. refl) refl
 
 maybe_apart : (a : ℕ) → apart (only 10) [] ≡ true
@@ -113,8 +113,8 @@ return_free (b, inl c) u t l f = f
 return_free (b, inr c) u t l f = f
 
 return_laws : Laws ReturnL return_p (only 13) (λ _. false) wide
-return_laws = conv_laws returned (seq_l (one_l (only 13)) MaybeL) ReturnL (seq_p (one_p (only 13)) maybe_feed) (only 13) _ _
-    (seq_laws (one_l (only 13)) (one_p (only 13)) (only 13) (λ _. false) (λ _. []) (one_laws (only 13) 13 refl) MaybeL maybe_feed (only 10) maybe_null maybe_ext maybe_laws false (λ a h. h) maybe_apart (inr tt) [] refl)
+return_laws = conv_laws returned (seq_l (one_l (only 13)) MaybeL) ReturnL (seq_p (one_p (only 13)) feed_p) (only 13) _ _
+    (seq_laws (one_l (only 13)) (one_p (only 13)) (only 13) (λ _. false) (λ _. []) (one_laws (only 13) 13 refl) MaybeL feed_p (only 10) maybe_null maybe_ext maybe_laws false (λ a h. h) maybe_apart (inr tt) [] refl)
     return_to return_from (λ _. false) wide (λ x e. e) return_free
 
 newline_to : (a : Pieces) (u : List ℕ) → FeedL a u ⊎ ReturnL a u → NewlineL a u
@@ -132,7 +132,7 @@ newline_laws = Rattle.grammar.proofs.Laws.say_laws (λ a u. FeedL a u ⊎ Return
     (choice_laws FeedL ReturnL (map_p (λ _. only_leaf (newline line_feed)) (one_p (only 10))) return_p (only 10) (only 13) (λ _. false) wide feed_laws return_laws refl (λ b u t l e f. absurd (false≢true e)))
     newline_to (λ a u l. newline_from a u l.0 l.1 l.2)
 
-fine_maybe : (a : ℕ) (s : List ℕ) → Fine (λ x. wide (returned (a, x))) (maybe_feed s)
+fine_maybe : (a : ℕ) (s : List ℕ) → Fine (λ x. wide (returned (a, x))) (feed_p s)
 fine_maybe a s = fine_pick (starts (only 10) s) (one_p (only 10)) eps_p s (λ x. wide (returned (a, x))) (λ e. fine_any (one_p (only 10) s)) (free s)
   where
     free : (s : List ℕ) → starts (only 10) s ≡ false → Free (only 10) s
@@ -144,7 +144,7 @@ fine_newline s =
     fine_map either wide (alt_p (only 10) (map_p (λ _. only_leaf (newline line_feed)) (one_p (only 10))) return_p s)
     (fine_pick (starts (only 10) s) (map_p (λ _. only_leaf (newline line_feed)) (one_p (only 10))) return_p s (λ x. wide (either x))
     (λ e. fine_map (λ _. only_leaf (newline line_feed)) wide (one_p (only 10) s) (fine_any (one_p (only 10) s)))
-    (λ e. fine_map returned wide (seq_p (one_p (only 13)) maybe_feed s) (fine_bind maybe_feed (λ x. wide (returned x)) (one_p (only 13) s) fine_maybe)))
+    (λ e. fine_map returned wide (seq_p (one_p (only 13)) feed_p s) (fine_bind feed_p (λ x. wide (returned x)) (one_p (only 13) s) fine_maybe)))
 
 -- what ends a line comment
 abbrev LineEndL : Bool → Lang (Pieces ⊎ Unit {0})

@@ -3,13 +3,10 @@ use Rattle.std.proofs.Common.{◌≡◌, ℕ, ◌+◌, true, List, [], ◌∷◌
 use Rattle.std.specs.Option.{option_or}
 use Rattle.std.proofs.lemmas.Bool.{cond-true}
 use Rattle.grammar.specs.Layout as said
-use Rattle.forest.specs.Forest.{node}
 use Rattle.model.specs.Nodes.{Nodes, blank, remark, Class, gap, class}
-use Rattle.model.specs.Asks.{Spot, spelt, sort_of, is_blank, gather, indent_at, indent_from}
+use Rattle.model.specs.Asks.{spelt, sort_of, is_blank, gather, indent_at, indent_from}
 use Rattle.tree.specs.declared.node.Node.{Node}
-use Rattle.tree.specs.declared.walks.Preceding.{Preceding}
 use Rattle.tree.specs.Steps.{spot, back, behind, earlier_spots}
-use Rattle.tree.specs.Walks.{preceding_left}
 use Rattle.tree.proofs.Listed.{back_is, turn_back}
 use Rattle.indents.specs.Blanks.{blanks}
 
@@ -67,7 +64,3 @@ module _ (a b : Option Node) (n : Node) (t : behind a ≡ spot n ∷ behind b) w
 
   pub going_remark : (end : Option Node) (all : Nodes) (c : said.Comment) → class (sort_of (spot n)) ≡ gap (remark c) → Going end (back a) all → Going None (back b) all
   going_remark end all c e (u, g, w) = (None, tt, sym (indent_is (gap (remark c)) e u) ∙ w)
-
--- a loop over the siblings before a node begins with all of them
-pub begins : (w v : Preceding) (s : Spot) → w ≡ v → preceding_left v ≡ earlier_spots s → back w.at ≡ s.here.before
-begins w v s e l = back_is w.at s.ups (node s.here.place s.here.own s.kids s.here.after) s.here.before (ap preceding_left e ∙ l)

@@ -11,7 +11,7 @@ use printing::buffers::put;
 use tree::{Class, Node};
 
 /// The node that stands right behind the indent of the node's line; absent if there is no Whitespace, or something else stands before the node too.
-#[tactic(auto, using(crate::proofs::Gathered::begins))]
+#[tactic(auto, using(tree::proofs::Listed::begin_back))]
 pub fn indent_end(node: Node<'_>) -> Option<Node<'_>>
     ensures { option_map (λ n. blanks (spot n).here.before) result ≡ indent_text (spot node.entry) }
 {
@@ -39,8 +39,8 @@ pub fn blanks_size(node: Node<'_>) -> usize
         .sum()
 }
 
-/// Writes the Whitespace right before the node at the start of the buffer, the nearest last, so that it ends at `size`.
-#[tactic(auto, using(crate::proofs::Gathered::begins))]
+/// Writes the Whitespace right before the node at the start of the buffer, the nearest last, so that it ends at `size`: from the end back, as the walk goes.
+#[tactic(auto, using(tree::proofs::Listed::begin_back))]
 pub fn write_blanks(node: Node<'_>, out: &mut [u8], size: usize)
     requires size { size ≡ length (blanks (spot node).here.before) }
     requires room { size ≤ length out.old }

@@ -1,19 +1,14 @@
 -- One turn of a block comment. Assumes nothing.
-use Rattle.std.proofs.Common.{◌≡◌, ℕ, ◌⊎◌, List, [], ◌∷◌, Result, ap, ◌∙◌, inl, inr}
+use Rattle.std.proofs.Common.{◌≡◌, ℕ, List, [], ◌∷◌, Result, ap, ◌∙◌, inl, inr}
 use Rattle.std.specs.Borrow.{Bor}
-use Rattle.grammar.specs.Parse.{map_r, Parser, one_p, eps_p, bind, seq_p, pick, alt_p}
+use Rattle.grammar.specs.Parse.{map_r, one_p, eps_p, bind, pick}
 use Rattle.grammar.specs.Classes.{only, InBlock}
 use Rattle.grammar.specs.Reader.{byte_p, char_p, block_turn, block_turn_p, block_p}
+use Rattle.grammar.proofs.Blocks.{slash_p, starred_p}
 use Rattle.lexemes.specs.declared.mismatch.Mismatch.{Mismatch}
 use Rattle.lexemes.specs.Scan.{Fails, Passes, Goes}
 use Rattle.lexemes.proofs.Ties.{left_on, one_is, byte_split, byte_starts, byte_none, loop_more, loop_done}
 use Rattle.lexemes.proofs.Lexed.{block_turns}
-
-abbrev slash_p : Parser (ℕ ⊎ Unit {0})
-slash_p = alt_p (only 47) (one_p (only 47)) eps_p
-
-abbrev star_p : Parser (ℕ × (ℕ ⊎ Unit {0}))
-star_p = seq_p (one_p (only 42)) slash_p
 
 module _ (s t : List ℕ) (x : Passes (byte_p (only 42)) s t) where
   abbrev star : ℕ
@@ -22,7 +17,7 @@ module _ (s t : List ℕ) (x : Passes (byte_p (only 42)) s t) where
   -- a star, and what comes behind it
   starred : block_turn_p s ≡ map_r block_turn (map_r inl (map_r (λ w. (star, w)) (slash_p t)))
   starred =
-      ap (λ v. map_r block_turn (pick v star_p (char_p InBlock) s)) (byte_starts (only 42) s t x)
+      ap (λ v. map_r block_turn (pick v starred_p (char_p InBlock) s)) (byte_starts (only 42) s t x)
       ∙ ap (λ z. map_r block_turn (map_r inl (bind slash_p z))) (one_is (only 42) s t x)
 
   pub block_close : (u : List ℕ) → Passes (byte_p (only 47)) t u → Passes block_p s u
@@ -43,7 +38,7 @@ module _ (s t : List ℕ) (x : Passes (byte_p (only 42)) s t) where
 
 module _ (s u : List ℕ) (y : Fails (byte_p (only 42)) s u) (t : List ℕ) where
   plain : block_turn_p s ≡ map_r block_turn (map_r inr (char_p InBlock s))
-  plain = ap (λ v. map_r block_turn (pick v star_p (char_p InBlock) s)) (byte_none (only 42) s u y)
+  plain = ap (λ v. map_r block_turn (pick v starred_p (char_p InBlock) s)) (byte_none (only 42) s u y)
 
   pub block_char : Passes (char_p InBlock) s t → (r : Result (Bor (List ℕ)) Mismatch) → Goes block_p t r → Goes block_p s r
   block_char x r g = loop_more block_turn_p block_turns s t x.0 (record { left = x.1.left; reads = plain ∙ ap (λ z. map_r block_turn (map_r inr z)) x.1.reads }) r g

@@ -125,21 +125,9 @@ module _ {A B : Type 0} (g : A → List ℕ) (g2 : B → List ℕ) (p : Parser (
   pub law_iter : Law (λ (x : List A × B). concat g g2 x.0 x.1) (λ _. 0) (iter_p p)
   law_iter s = loop_law (suc (length s)) s
 
-  turn_same : (k k2 : Parser (List A × B)) (s : List ℕ) (x : Res (A ⊎ B)) → Law1 (sum2 g g2) (sum2 (λ _. 1) (λ _. 0)) s x
-      → ((t : List ℕ) → length t < length s → k t ≡ k2 t) → turn k x ≡ turn k2 x
-  turn_same k k2 s (res (ok (inl a)) t) m f = ap (map_r (onto a)) (f t (omega (arith, ap length m.0, length-append (g a) t, m.1)))
-  turn_same k k2 s (res (ok (inr c)) t) m f = refl
-  turn_same k k2 s (res bad t) m f = refl
-  turn_same k k2 s (res deep t) m f = refl
-
-  loop_same : (n n2 : ℕ) (s : List ℕ) → length s < n → length s < n2 → loop n p s ≡ loop n2 p s
-  loop_same zero n2 s hf hg = absurd (omega arith)
-  loop_same (suc n) zero s hf hg = absurd (omega arith)
-  loop_same (suc n) (suc n2) s hf hg = turn_same (loop n p) (loop n2 p) s (p s) (h s) (λ t lt. loop_same n n2 t (omega arith) (omega arith))
-
-  -- the first turn, and then the rest
-  pub iter_turn : (s : List ℕ) → iter_p p s ≡ turn (iter_p p) (p s)
-  iter_turn s = turn_same (loop (length s) p) (iter_p p) s (p s) (h s) (λ t lt. loop_same (length s) (suc (length t)) t lt (omega arith))
+  -- a turn that goes on leaves less than there was
+  pub turn_less : (s : List ℕ) (a : A) (t : List ℕ) → p s ≡ res (ok (inl a)) t → length t < length s
+  turn_less s a t e = (let m = subst (Law1 (sum2 g g2) (sum2 (λ _. 1) (λ _. 0)) s) e (h s) in omega (arith, ap length m.0, length-append (g a) t, m.1))
 
 -- what is read stands in front of what is left
 module _ {A : Type 0} (g : A → List ℕ) (lo : A → ℕ) (p : Parser A) (h : Law g lo p) (s t : List ℕ) (a : A) (r : Reads p s a t) where

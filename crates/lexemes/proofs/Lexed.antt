@@ -3,6 +3,7 @@ use Rattle.std.proofs.Common.{◌≡◌, ℕ, ◌+◌, ◌≤◌, ◌⊎◌, Lis
 use Rattle.grammar.specs.Parse.{Parser, Class, one_p, eps_p, seq_p, alt_p, iter_p}
 use Rattle.grammar.specs.Classes.{only, Tail, MultiFirst, Digit, Digit1To9, Exponent, Signs, Hex, Escaped, Plain, InBlock}
 use Rattle.grammar.specs.Reader.{either, or_p, byte_p, empty_p, cat_p, word_p, run_p, concats, loop_b, many_p, tail_p, two_p, three_p, four_p, multi_p, char_p, chars_p, minus_p, digits_p, int_p, frac_p, power_p, exp_p, number_p, hex_p, unicode_p, escape_p, string_char_p, StringFirst, string_p, block_turn, block_turn_p, block_p}
+use Rattle.grammar.proofs.Blocks.{slash_p, starred_p}
 use Rattle.lexemes.specs.Scan.{Reads}
 use Rattle.lexemes.proofs.Laws.{Law, law_one, law_eps, law_run, law_map, law_less, law_seq, sum2, law_alt, concat, law_iter, law_part}
 use Rattle.lexemes.proofs.Ties.{goes, Turns}
@@ -128,9 +129,6 @@ bytes_string =
     (bytes_cat 0 1 (many_p StringFirst string_char_p) (byte_p (only 34)) (bytes_many StringFirst string_char_p bytes_string_char) (bytes_byte (only 34))))
 
 -- block comments
-abbrev star_p : Parser (ℕ × (ℕ ⊎ Unit {0}))
-star_p = seq_p (one_p (only 42)) (alt_p (only 47) (one_p (only 47)) eps_p)
-
 abbrev slash : ℕ ⊎ Unit {0} → List ℕ
 slash = sum2 (λ b. b ∷ []) (λ _. [])
 
@@ -139,13 +137,13 @@ starred x = (x.0 ∷ []) ++ slash x.1
 
 pub block_turns : Turns block_turn_p
 block_turns =
-    law_map (sum2 starred (λ a. a)) (sum2 (λ _. 1) (λ _. 1)) (sum2 (λ a. a) (λ a. a)) goes block_turn (alt_p (only 42) star_p (char_p InBlock)) alike least
-    (law_alt starred (λ _. 1) (λ a. a) (λ _. 1) (only 42) star_p (char_p InBlock) star_law (bytes_char InBlock))
+    law_map (sum2 starred (λ a. a)) (sum2 (λ _. 1) (λ _. 1)) (sum2 (λ a. a) (λ a. a)) goes block_turn (alt_p (only 42) starred_p (char_p InBlock)) alike least
+    (law_alt starred (λ _. 1) (λ a. a) (λ _. 1) (only 42) starred_p (char_p InBlock) star_law (bytes_char InBlock))
   where
-    star_law : Law starred (λ _. 1) star_p
+    star_law : Law starred (λ _. 1) starred_p
     star_law =
-        law_less starred (λ (x : ℕ × (ℕ ⊎ Unit {0})). 1 + sum2 {A = ℕ} {B = Unit {0}} (λ _. 1) (λ _. 0) x.1) (λ _. 1) star_p (λ x. omega arith)
-        (law_seq (λ b. b ∷ []) (λ _. 1) slash (sum2 (λ _. 1) (λ _. 0)) (one_p (only 42)) (alt_p (only 47) (one_p (only 47)) eps_p) (law_one (only 42)) (law_alt (λ b. b ∷ []) (λ _. 1) (λ _. []) (λ _. 0) (only 47) (one_p (only 47)) eps_p (law_one (only 47)) law_eps))
+        law_less starred (λ (x : ℕ × (ℕ ⊎ Unit {0})). 1 + sum2 {A = ℕ} {B = Unit {0}} (λ _. 1) (λ _. 0) x.1) (λ _. 1) starred_p (λ x. omega arith)
+        (law_seq (λ b. b ∷ []) (λ _. 1) slash (sum2 (λ _. 1) (λ _. 0)) (one_p (only 42)) slash_p (law_one (only 42)) (law_alt (λ b. b ∷ []) (λ _. 1) (λ _. []) (λ _. 0) (only 47) (one_p (only 47)) eps_p (law_one (only 47)) law_eps))
 
     alike : (x : (ℕ × (ℕ ⊎ Unit {0})) ⊎ List ℕ) → sum2 {A = List ℕ} {B = List ℕ} (λ a. a) (λ a. a) (block_turn x) ≡ sum2 starred (λ a. a) x
     alike (inl (b, inl c)) = refl

@@ -4,10 +4,10 @@ use Rattle.std.specs.Borrow.{Bor}
 use Rattle.grammar.specs.Parse.{ok, bad, deep, Res, res, map_r, Parser, Class, within, starts, one_p, bind, seq_p, pick, alt_p, onto, turn, iter_p}
 use Rattle.grammar.specs.Reader.{either, or_p, byte_p, empty_p, cat_p, word_p, run_p, concats, loop_b, many_p}
 use Rattle.grammar.specs.Classes.{only}
-use Rattle.grammar.proofs.Laws.{within_app}
+use Rattle.grammar.proofs.Laws.{within_app, iter_turn}
 use Rattle.lexemes.specs.declared.mismatch.Mismatch.{Mismatch}
 use Rattle.lexemes.specs.Scan.{Left, Reads, Fails, Passes, Goes}
-use Rattle.lexemes.proofs.Laws.{Law, sum2, iter_turn, law_moves}
+use Rattle.lexemes.proofs.Laws.{Law, sum2, turn_less, law_moves}
 
 -- what is left
 pub left_all : (s : List ℕ) → Left s s
@@ -160,7 +160,7 @@ module _ (p : Parser (List ℕ ⊎ List ℕ)) (h : Turns p) (s t : List ℕ) whe
   flat x = concats x.0 x.1
 
   unrolled : loop_b p s ≡ map_r flat (turn (iter_p p) (p s))
-  unrolled = ap (map_r flat) (iter_turn (λ a. a) (λ a. a) p h s)
+  unrolled = ap (map_r flat) (iter_turn p (turn_less (λ a. a) (λ a. a) p h) s)
 
   onto_flat : (a : List ℕ) (x : Res (List (List ℕ) × List ℕ)) → map_r flat (map_r (onto a) x) ≡ map_r (λ y. a ++ y) (map_r flat x)
   onto_flat a (res (ok x) t) = refl

@@ -44,7 +44,7 @@ impl ByteClass {
     {
         match self {
             ByteClass::Only(x) => b == x,
-            ByteClass::Range(lo, hi) => lo <= b && b <= hi,
+            ByteClass::Range(lo, hi) => (lo..=hi).contains(&b),
             ByteClass::MultiFirst => matches!(b, 0xC2..=0xF4),
             ByteClass::Digit => matches!(b, b'0'..=b'9'),
             ByteClass::Exponent => matches!(b, b'e' | b'E'),

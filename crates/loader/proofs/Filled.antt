@@ -17,6 +17,7 @@ use Rattle.model.specs.Fits.{Document}
 use Rattle.model.specs.State.{up_from, loaded_state}
 use Rattle.model.proofs.Loads.{pieces_numbered}
 use Rattle.model.proofs.Loaded.{loads}
+use Rattle.model.proofs.Places.{up_length}
 use Rattle.tree.specs.Sorts.{own_for, Inside}
 use Rattle.tree.specs.Well.{Well, below, whole, kids_in}
 use Rattle.loader.specs.declared.builder.Builder.{Builder}
@@ -27,10 +28,6 @@ use Rattle.loader.proofs.Sorted.{laid_sorts, laid_inside}
 run_up : (k n : ℕ) → table.run k n ≡ up_from k n
 run_up k zero = refl
 run_up k (suc n) = ap (λ y. k ∷ y) (ap (λ y. table.run y n) (add-one k) ∙ run_up (suc k) n)
-
-up_length : (k n : ℕ) → length (up_from k n) ≡ n
-up_length k zero = refl
-up_length k (suc n) = omega (arith, up_length (suc k) n)
 
 up_low : (k p n : ℕ) → k < p → occurs k (up_from p n) ≡ 0
 up_low k p zero h = refl

@@ -33,7 +33,7 @@ const MAX_ROOM: usize = 1_048_576;
 fn refuses_sizes(records: usize, room: usize, text: &[u8]) -> bool
     ensures { result ≡ bad_sizes records room text.now }
 {
-    records == 0 || records > MAX_RECORDS || room > MAX_ROOM || text.len() > MAX_TEXT
+    !(1..=MAX_RECORDS).contains(&records) || room > MAX_ROOM || text.len() > MAX_TEXT
 }
 
 /// Refuses a text that is no house file, or whose document does not fit.
@@ -58,6 +58,7 @@ fn tell(text: &[u8], builder: &mut Builder)
     let _ = read_text(text, builder);
 }
 
+// Records, room and text are three sizes of one call, and named once: they need no type of their own.
 /// The tree of a text, in a table of so many records and a store with room for so many bytes.
 pub fn load_tree(heap: Global, records: usize, room: usize, text: &[u8]) -> Result<Tree, LoadError>
     ensures { Loaded records room text.now result }

@@ -1,7 +1,7 @@
 -- A document and its account agree, and every accepted edit keeps them so. Assumes nothing.
 use Rattle.std.proofs.Common.{◌≡◌, ℕ, ◌+◌, ◌<◌, ◌≤◌, Bool, true, false, cond, not, ◌&&◌, ◌||◌, eqb, ltb, ◌⊎◌, List, [], ◌∷◌, ◌++◌, length, Some, None, Option, sym, refl, ap, ◌∙◌, subst, inl, inr, arith}
-use mathlib.Core.Bool.{false≢true}
 use Rattle.std.proofs.lemmas.Bool.{cond_both, eqb-true, ltb-true, ltb-false}
+use Rattle.std.proofs.lemmas.Option.{none-some}
 use Rattle.grammar.specs.Layout.{Layout, Parts, nil, part}
 use Rattle.grammar.specs.Pieces.{nodes, stored, layout}
 use Rattle.grammar.proofs.Whole.{right}
@@ -21,7 +21,6 @@ use Rattle.model.specs.Account.{Account, In, with_handles, put, deleted, handles
 use Rattle.model.specs.Accounted.{Alone, RemovesSo, ReplacesSo, SetsSo}
 use Rattle.model.specs.Promise.{printing, answered, at_of, sort_named}
 use Rattle.model.specs.Given.{Held, Moves, family}
-use Rattle.model.proofs.Removes.{some_none}
 use Rattle.model.proofs.Edited.{at_once}
 use Rattle.model.proofs.Stand.{stand}
 use Rattle.model.proofs.Indented.{root_blank, indents_blank, spot_surrounded}
@@ -29,7 +28,7 @@ use Rattle.model.proofs.Spots.{spot_found}
 use Rattle.model.proofs.Lying.{named_spot, spot_place}
 use Rattle.model.proofs.Places.{held_placed, after_held}
 use Rattle.model.proofs.Moves.{found_at, at_found, held_once, after_moves}
-use Rattle.model.proofs.Steps.{step_document, spot_bracketed, bracketed_or}
+use Rattle.model.proofs.Steps.{property_box, step_document, spot_bracketed, bracketed_or}
 use Rattle.model.proofs.Writes.{all_append}
 use Rattle.model.proofs.Kept.{never_comments, never_value, lines_comments, lines_value, multiline_comments, multiline_value}
 use Rattle.model.proofs.Leaves.{accepted_planned, remove_gone, replace_gone, value_gone, root_gone, clear_gone}
@@ -127,11 +126,7 @@ node_depths d H h s p e a = (let x = depths (tree d.kids) 0 (0 ∷ p) h [] end s
 
 -- a property is no array or object
 property_flat : (s : Sort) → is_property s ≡ true → bracketed s ≡ false
-property_flat Sort.root e = refl
-property_flat (Sort.within Rattle.grammar.specs.Pieces.Box.array) e = absurd (false≢true e)
-property_flat (Sort.within Rattle.grammar.specs.Pieces.Box.object) e = absurd (false≢true e)
-property_flat (Sort.within Rattle.grammar.specs.Pieces.Box.property) e = refl
-property_flat (Sort.single x) e = refl
+property_flat s e = ap bracketed (property_box s e)
 
 -- ONE ACCEPTED EDIT
 module _ (d : State) (w : Work) (e : Edit Value) (a : Account) (A : Agree d a) (S : Showing e) (x : Plan) (q : accepted d w e ≡ Given x) where
@@ -156,7 +151,7 @@ module _ (d : State) (w : Work) (e : Edit Value) (a : Account) (A : Agree d a) (
 
       still : (h : Handle) → sort_named d h ≡ None → h.number < d.fresh → (o : Option Sort) → sort_named (finished d x) h ≡ o → o ≡ None
       still h n f None z = refl
-      still h n f (Some k) z = elim (M.names h k z) [ inl y ↦ absurd (some_none k (sym y ∙ n)) | inr y ↦ absurd (omega arith) ]
+      still h n f (Some k) z = elim (M.names h k z) [ inl y ↦ absurd (none-some k (sym n ∙ y)) | inr y ↦ absurd (omega arith) ]
 
       go : (h : Handle) → (In h (handles (parts d.kids)) × (h.number < d.fresh → sort_named (after d w e) h ≡ None)) ⊎ In h a.left → (sort_named (finished d x) h ≡ None) × (h.number < (finished d x).fresh)
       go h (inl (m, g)) = (let n = number_below d A.held h m in let y = M.grows in (sym (ap (λ y. sort_named y h) is) ∙ g n, omega arith))
@@ -312,7 +307,7 @@ root_agrees d w v a A S x q = go (value_in d.kids) refl (accepted_planned d w (S
     flat (part i l ks ts) = refl
 
     full : (o : Handle) (V : Parts Handle) → at V 0 [] ≡ Some o → Agree (finished d x) (replaced a (layout_of (printing d)) [] (spelled v) (at_of (finished d x))) → Agree (finished d x) (rooted a (layout_of (printing d)) (spelled v) (at_of (finished d x)) V)
-    full o nil e z = absurd (some_none o (sym e))
+    full o nil e z = absurd (none-some o e)
     full o (part i l ks ts) e z = z
 
     go : (o : Option Handle) → value_in d.kids ≡ o → Given (root_plan d v o) ≡ Given x → KeptBy d w (SetRoot v) a x

@@ -1,5 +1,5 @@
 -- set_trailing_commas keeps the document, its comments and its value. Assumes nothing.
-use Rattle.std.proofs.Common.{◌≡◌, ◌+◌, Bool, true, false, ◌&&◌, ◌++◌, sym, refl, ap, ◌∙◌, subst}
+use Rattle.std.proofs.Common.{◌≡◌, ◌+◌, Bool, true, false, ◌&&◌, ◌++◌, sym, refl, ap, ◌∙◌, subst, true≢false}
 use mathlib.Core.Bool.{false≢true}
 use Rattle.std.proofs.lemmas.Bool.{cond_both, and_parts}
 use Rattle.grammar.specs.Layout.{Line, Block, Open, Close, Comma, Colon, Name, Label}
@@ -8,7 +8,7 @@ use Rattle.forest.specs.Forest.{end, node, append}
 use Rattle.model.specs.Nodes.{handle, Sort, root, within, single, Nodes, Gap, blank, break, remark, Class, gap, mark, value, class, piece, pieces, label_of, parts, parts_at}
 use Rattle.model.specs.Asks.{is_comma, is_value}
 use Rattle.model.specs.Edits.{Supply, skip, sown, end_at, ends, untrailed, lined, due, dues, commas, trailed}
-use Rattle.model.specs.Fits.{Owner, of, Pos, start, items, next, named, only, shut, State, here, dead, spaced, step, run, begin, Ends, sign, takes, Taken, Fits, IsEnd, Holds, Whole, comments, remarks_of}
+use Rattle.model.specs.Fits.{Owner, of, Pos, start, items, next, named, only, shut, State, here, dead, spaced, step, run, begin, Ends, sign, title, takes, Taken, Fits, IsEnd, Holds, Whole, comments, remarks_of}
 use Rattle.model.proofs.Prints.{no_dead}
 
 is_comma_lem : (c : Class) → is_comma c ≡ true → c ≡ mark Comma
@@ -195,6 +195,12 @@ trailed_fits f b s ts k h = record { ends = trailed_ends f (begin f) b s ts h.en
 trailed_end : (b : Bool) (s : Supply) (ks : Nodes) → IsEnd ks → IsEnd (trailed b s ks)
 trailed_end b s end h = tt
 trailed_end b s (node p i ks ts) h = absurd h
+
+-- an array or object takes commas
+pub bracketed_commas : (b : Bool) (x : Box) → takes (of x) title ≡ false → Commaed (of x) b
+bracketed_commas b array n e = refl
+bracketed_commas b object n e = refl
+bracketed_commas b property n e = absurd (true≢false n)
 
 -- only arrays and objects have lines
 pub lined_commas : (x : Box) (ks : Nodes) → Commaed (of x) (lined (within x) ks)

@@ -1,6 +1,7 @@
 -- Edits that write nothing leave each place at most as often as it stood. Assumes nothing.
-use Rattle.std.proofs.Common.{◌≡◌, ℕ, ◌+◌, ◌≤◌, Bool, true, false, not, ◌&&◌, eqb, Some, None, Option, sym, refl, ap, arith}
+use Rattle.std.proofs.Common.{◌≡◌, ℕ, ◌+◌, ◌≤◌, Bool, true, false, not, ◌&&◌, eqb, Some, None, Option, refl, ap, arith}
 use Rattle.std.proofs.lemmas.Bool.{cond_both}
+use Rattle.std.proofs.lemmas.Option.{none-some}
 use Rattle.grammar.specs.Layout.{Open, Close, Comma, Colon, Name}
 use Rattle.forest.specs.Forest.{end, node, one, count}
 use Rattle.forest.specs.Edits.{edited}
@@ -8,7 +9,6 @@ use Rattle.model.specs.Nodes.{Nodes, blank, break, remark, Class, gap, mark, val
 use Rattle.model.specs.Asks.{is_comma}
 use Rattle.model.specs.Edits.{onto, local_from, local, under, back_at, back_line, un_comma, past_at, past_comma, line_ends, solid_next, rest_at, drop_line, empty, tight_at, tight, tidy, closed, removal, remove, ends, untrailed}
 use Rattle.model.specs.Changes.{Placed}
-use Rattle.model.proofs.Removes.{some_none}
 
 module _ (k : ℕ) where
   count_onto : (bs ts : Nodes) → count k (onto bs ts) ≡ count k bs + count k ts
@@ -32,17 +32,17 @@ module _ (k : ℕ) where
       (λ e. omega arith) (λ e. omega (arith, fewer_comma bs))
 
   fewer_past : (ts r : Nodes) → past_comma ts ≡ Some r → count k r ≤ count k ts
-  fewer_past end r w = absurd (some_none r (sym w))
+  fewer_past end r w = absurd (none-some r w)
   fewer_past (node p i ks ts) r w = go (class i.sort) w (fewer_past ts r)
     where
       go : (c : Class) → past_at c (past_comma ts) ts ≡ Some r → (past_comma ts ≡ Some r → count k r ≤ count k ts) → count k r ≤ one p k + (count k ks + count k ts)
       go (gap g) w h = omega (arith, h w)
-      go (mark Open) w h = absurd (some_none r (sym w))
-      go (mark Close) w h = absurd (some_none r (sym w))
+      go (mark Open) w h = absurd (none-some r w)
+      go (mark Close) w h = absurd (none-some r w)
       go (mark Comma) w h = (let z : ts ≡ r = cc in omega (arith, ap (count k) z))
-      go (mark Colon) w h = absurd (some_none r (sym w))
-      go (mark Name) w h = absurd (some_none r (sym w))
-      go value w h = absurd (some_none r (sym w))
+      go (mark Colon) w h = absurd (none-some r w)
+      go (mark Name) w h = absurd (none-some r w)
+      go value w h = absurd (none-some r w)
 
   fewer_line : (ts : Nodes) → count k (drop_line ts) ≤ count k ts
   fewer_line end = omega arith

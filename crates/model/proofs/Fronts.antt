@@ -1,26 +1,10 @@
 -- Pieces read from the front, one at a time: trivia, and then what the grammar makes of the rest. Assumes nothing.
-use Rattle.std.proofs.Common.{◌≡◌, ℕ, Bool, true, false, List, [], ◌∷◌, ◌++◌, sym, refl, ap, ◌∙◌, subst, append_assoc, append-nil}
+use Rattle.std.proofs.Common.{◌≡◌, ℕ, Bool, true, false, List, [], ◌++◌, sym, refl, ap, ◌∙◌, subst, append_assoc, append-nil}
 use Rattle.grammar.specs.Classes.{Blank}
-use Rattle.grammar.specs.Layout.{Comment, Line, Block, Layout, stop, note}
-use Rattle.grammar.specs.Grammar.{All, BlockComment, LineComment, Between, quiet, remark, broken, after, Trivia, empty, blank, newline, block_comment, line_comment, open_line}
-use Rattle.grammar.specs.Pieces.{Break, line_feed, carriage_return, both, whitespace, comment, newline as break, Pieces, end, leaf, break_bytes, print, lay}
-use Rattle.grammar.proofs.Laid.{flag}
-
-broken_twice : (g : Between) → broken (broken g) ≡ broken g
-broken_twice (quiet b) = refl
-broken_twice (remark b c g) = refl
-
-flag_broken : (b : Bool) (g : Between) → flag b (broken g) ≡ broken g
-flag_broken true g = broken_twice g
-flag_broken false g = refl
-
-pub after_quiet : (b : Bool) (k : Bool → Layout) → after (flag b (quiet false)) k ≡ k b
-after_quiet true k = refl
-after_quiet false k = refl
-
-after_remark : (b : Bool) (c : Comment) (g : Between) (k : Bool → Layout) → after (flag b (remark false c g)) k ≡ note b c (after g k)
-after_remark true c g k = refl
-after_remark false c g k = refl
+use Rattle.grammar.specs.Layout.{Line, Block, Layout, stop, note}
+use Rattle.grammar.specs.Grammar.{All, BlockComment, LineComment, Between, quiet, remark, broken, after, Trivia, empty, block_comment, open_line}
+use Rattle.grammar.specs.Pieces.{Break, whitespace, comment, newline as break, Pieces, end, leaf, break_bytes, print, lay}
+use Rattle.grammar.proofs.Laid.{flag, flag_broken, after_quiet, after_remark, blanks_on, break_trivia, line_trivia}
 
 -- The pieces begin with trivia, and whatever trivia stands in their place, G holds of it with what follows.
 pub record Front (G : Layout → List ℕ → Type 0) (a : Pieces) : Type 0 where
@@ -33,10 +17,6 @@ pub record Front (G : Layout → List ℕ → Type 0) (a : Pieces) : Type 0 wher
   pub head : (g : Between) (s : List ℕ) → Trivia last g s → G (after g then) (s ++ tail)
   pub laid : (b : Bool) → lay a b ≡ after (flag b between) then
   pub printed : print a ≡ bytes ++ tail
-
-blanks_on : (last : Bool) (g : Between) (u v : List ℕ) → All Blank u → Trivia last g v → Trivia last g (u ++ v)
-blanks_on last g [] v h t = t
-blanks_on last g (b ∷ u) v h t = blank b h.0 (blanks_on last g u v h.1 t)
 
 module _ (G : Layout → List ℕ → Type 0) where
   -- so G holds of the pieces
@@ -57,17 +37,12 @@ module _ (G : Layout → List ℕ → Type 0) where
       printed = ap (λ y. v ++ y) m.printed ∙ sym (append_assoc v m.bytes m.tail);
     }
 
-    break_trivia : (k : Break) → Trivia m.last (broken m.between) (break_bytes k ++ m.bytes)
-    break_trivia line_feed = newline 10 refl m.trivia
-    break_trivia carriage_return = newline 13 refl m.trivia
-    break_trivia both = subst (λ y. Trivia m.last y (13 ∷ 10 ∷ m.bytes)) (broken_twice m.between) (newline 13 refl (newline 10 refl m.trivia))
-
     pub break_on : (k : Break) → Front G (leaf (break k) a)
     break_on k = record {
       last = m.last;
       between = broken m.between;
       bytes = break_bytes k ++ m.bytes;
-      trivia = break_trivia k;
+      trivia = break_trivia m.trivia k;
       then = m.then;
       tail = m.tail;
       head = m.head;
@@ -88,18 +63,13 @@ module _ (G : Layout → List ℕ → Type 0) where
       printed = ap (λ y. t ++ y) m.printed ∙ sym (append_assoc t m.bytes m.tail);
     }
 
-    line_trivia : (t : List ℕ) (k : Break) → LineComment t → Trivia m.last (remark false (Line t) (broken m.between)) (t ++ (break_bytes k ++ m.bytes))
-    line_trivia t line_feed h = line_comment 10 h refl m.trivia
-    line_trivia t carriage_return h = line_comment 13 h refl m.trivia
-    line_trivia t both h = subst (λ y. Trivia m.last (remark false (Line t) y) (t ++ 13 ∷ 10 ∷ m.bytes)) (broken_twice m.between) (line_comment 13 h refl (newline 10 refl m.trivia))
-
     -- a line comment and the Newline that ends it
     pub line_on : (t : List ℕ) (k : Break) → LineComment t → Front G (leaf (comment (Line t)) (leaf (break k) a))
     line_on t k h = record {
       last = m.last;
       between = remark false (Line t) (broken m.between);
       bytes = t ++ (break_bytes k ++ m.bytes);
-      trivia = line_trivia t k h;
+      trivia = line_trivia m.trivia t k h;
       then = m.then;
       tail = m.tail;
       head = m.head;

@@ -1,6 +1,7 @@
 -- The indents that edits write are spaces and tabs. Assumes nothing.
-use Rattle.std.proofs.Common.{◌≡◌, ℕ, zero, suc, cond, eqb, ltb, List, [], ◌∷◌, Some, None, Option, sym, refl, subst, arith}
+use Rattle.std.proofs.Common.{◌≡◌, ℕ, zero, suc, cond, eqb, ltb, List, [], ◌∷◌, Some, None, Option, refl, subst, arith}
 use Rattle.std.proofs.lemmas.Bool.{cond_both}
+use Rattle.std.proofs.lemmas.Option.{none-some}
 use Rattle.grammar.specs.Classes.{Blank}
 use Rattle.grammar.specs.Grammar.{All}
 use Rattle.grammar.specs.Pieces.{Leaf, null, boolean, number, string, name, token, whitespace, newline, comment}
@@ -10,7 +11,6 @@ use Rattle.model.specs.Asks.{Frame, Spot, spot_in, spot_at, or_else, spelt, gath
 use Rattle.model.specs.Indents.{Indents, two_spaces, times, rest, past_property, counts, Searched, Found, Ended, begins, compared, searched, first_indent, stepped, unfound, settled, root_indents, node_indents, indents}
 use Rattle.model.specs.Fits.{Holds, Whole}
 use Rattle.model.specs.Changes.{Each}
-use Rattle.model.proofs.Removes.{some_none}
 use Rattle.model.proofs.Writes.{all_append}
 
 abbrev BlankOpt : Option (List ℕ) → Type 0
@@ -144,7 +144,7 @@ indents_blank s ts h w =
     (searched_blank 0 (indent_text s) (past_property s.ups) o (past_framed s.ups h.ups_held)) o (first_blank end (value_kids ts) tt (kids_held ts (each_held ts w))))
 
 around : (k : ℕ) (us : List Frame) (bs ts : Nodes) (s : Spot) → Framed us → Each Held bs → Each Held ts → spot_in k us bs ts ≡ Some s → Surrounded s
-around k us bs end s u b h = λ e. absurd (some_none s (sym e))
+around k us bs end s u b h = λ e. absurd (none-some s e)
 around k us bs (node p i ks ts) s u b h =
     let f : Frame = record { before = bs; place = p; own = i; after = ts } in
     cond_both (eqb p k) (Some (record { here = f; kids = ks; ups = us })) (cond (ltb 0 (count k ks)) (spot_in k (f ∷ us) end ks) (spot_in k us (node p i ks bs) ts)) (λ y. y ≡ Some s → Surrounded s)
@@ -158,4 +158,4 @@ spot_surrounded k ts s w =
     cond_both (eqb 0 k) (Some (record { here = f; kids = ts; ups = [] })) (cond (ltb 0 (count k ts)) (spot_in k (f ∷ []) end ts) None) (λ y. y ≡ Some s → Surrounded s)
     (λ z e. (let y : record { here = f; kids = ts; ups = [] } ≡ s = cc in subst Surrounded y (record { before_held = tt; ups_held = tt })))
     (λ z. cond_both (ltb 0 (count k ts)) (spot_in k (f ∷ []) end ts) None (λ y. y ≡ Some s → Surrounded s)
-    (λ y. around k (f ∷ []) end ts s (tt, tt) tt (each_held ts w)) (λ y e. absurd (some_none s (sym e))))
+    (λ y. around k (f ∷ []) end ts s (tt, tt) tt (each_held ts w)) (λ y e. absurd (none-some s e)))

@@ -1,7 +1,7 @@
 -- The handles of a node that is removed or replaced, and of all below it, are Gone. Assumes nothing.
-use Rattle.std.proofs.Common.{◌≡◌, ℕ, ◌+◌, ◌<◌, ◌≤◌, Bool, true, false, cond, not, ◌&&◌, eqb, ltb, ◌⊎◌, List, [], ◌∷◌, length, Some, None, Option, sym, refl, ap, ◌∙◌, subst, inl, inr, arith}
-use mathlib.Core.Bool.{false≢true}
-use Rattle.std.proofs.lemmas.Bool.{cond_both, eqb-true, eq-eqb}
+use Rattle.std.proofs.Common.{◌≡◌, ℕ, ◌+◌, ◌<◌, ◌≤◌, Bool, true, false, cond, not, ◌&&◌, eqb, ltb, List, [], ◌∷◌, length, Some, None, Option, sym, refl, ap, ◌∙◌, subst, inl, inr, arith}
+use Rattle.std.proofs.lemmas.Bool.{cond_both, eqb-true}
+use Rattle.std.proofs.lemmas.Option.{none-some}
 use Rattle.grammar.specs.Pieces.{nodes, stored}
 use Rattle.forest.specs.Forest.{end, node, one, count}
 use Rattle.forest.proofs.Frames.{one_eq}
@@ -17,9 +17,8 @@ use Rattle.model.specs.Changes.{At, Placed}
 use Rattle.model.specs.Given.{Held, family}
 use Rattle.model.proofs.Edited.{at_count, at_once}
 use Rattle.model.proofs.Kept.{at_inside}
-use Rattle.model.proofs.Removes.{some_none}
 use Rattle.model.proofs.Spots.{Spotted, the_root, a_node, spot_found}
-use Rattle.model.proofs.Tally.{tally, Among, Below, tally_onto, less_tidy, less_closed, under_tally}
+use Rattle.model.proofs.Tally.{tally, Among, among_on, Below, tally_onto, less_tidy, less_closed, under_tally}
 use Rattle.model.proofs.Sowing.{parent_below, spot_below, spot_place, value_among}
 use Rattle.model.proofs.Places.{tally_count, below_le, below_yes, sown_often, held_placed, Roomy, accepted_roomy, after_held}
 use Rattle.model.proofs.Moves.{is, marks, is_parts, named_names, names_tally, marks_often}
@@ -45,11 +44,7 @@ gone_from g r w k bs (node p i ks ts) a = go (eqb p k) refl (gone_from g r w k (
     go : (b : Bool) → eqb p k ≡ b → (Among k ts → (j : Own) × (us : Nodes) × At k j us ts × (tally w (local_from g k (node p i ks bs) ts) + (w k j + tally w us) ≤ (w p i + (tally w ks + tally w bs)) + tally w ts))
         → (j : Own) × (us : Nodes) × At k j us (node p i ks ts) × (tally w (cond b (g bs p i ks ts) (local_from g k (node p i ks bs) ts)) + (w k j + tally w us) ≤ tally w bs + (w p i + (tally w ks + tally w ts)))
     go true e R = (i, ks, inl (eqb-true p k e, refl, refl), omega (arith, r w bs p i ks ts, ap (λ y. w y i) (eqb-true p k e)))
-    go false e R = (let m = R (rest a) in (m.0, m.1, inr (inr m.2), (let l = m.3 in omega arith)))
-      where
-        rest : (p ≡ k) ⊎ Among k ts → Among k ts
-        rest (inl z) = absurd (false≢true (sym e ∙ eq-eqb p k z))
-        rest (inr z) = z
+    go false e R = (let m = R (among_on p k ts e a) in (m.0, m.1, inr (inr m.2), (let l = m.3 in omega arith)))
 
 -- so it does in the whole tree
 gone_under : (g : Local) → Around g → (w : ℕ → Own → ℕ) (c k : ℕ) (us ts : Nodes) (i : Own) (ks : Nodes) → count k ts ≤ 1 → Below c us ts → Among k us → At k i ks ts
@@ -125,7 +120,7 @@ named_spot h ks s = go (spot_at h.place ks)
   where
     go : (o : Option Spot) → then o (numbered_so h.number) ≡ Some s → o ≡ Some s
     go None = λ e. e
-    go (Some x) = cond_both (eqb x.here.own.number h.number) (Some x) None (λ y. y ≡ Some s → Some x ≡ Some s) (λ z e. e) (λ z e. absurd (some_none s (sym e)))
+    go (Some x) = cond_both (eqb x.here.own.number h.number) (Some x) None (λ y. y ≡ Some s → Some x ≡ Some s) (λ z e. e) (λ z e. absurd (none-some s e))
 
 -- an accepted edit is as it was planned
 pub accepted_planned : (d : State) (w : Work) (e : Edit Value) (x : Plan) → accepted d w e ≡ Given x → planned d e ≡ Given x

@@ -11,8 +11,8 @@ use Rattle.model.specs.Fits.{Holds, Whole, comments, remarks_of}
 use Rattle.model.specs.Account.{breaks, after_comma, gap_notes, line_notes, past_line, Split, followed}
 use Rattle.model.specs.Changes.{notes_before}
 use Rattle.std.proofs.lemmas.Bool.{cond_both}
+use Rattle.std.proofs.lemmas.Option.{none-some}
 use Rattle.model.proofs.Says.{comments_onto}
-use Rattle.model.proofs.Removes.{some_none}
 use Rattle.model.proofs.Loads.{whole_comments}
 
 -- a node's place in the layout, by its class
@@ -158,17 +158,17 @@ tight_comments (node p i ks ts) = go (class i.sort) (node p i ks (tight ts)) (ap
     go value x h r = h
 
 whole_past : (ts r : Nodes) → past_comma ts ≡ Some r → Whole ts → Whole r
-whole_past end r w h = absurd (some_none r (sym w))
+whole_past end r w h = absurd (none-some r w)
 whole_past (node p i ks ts) r w h = go (class i.sort) w (λ z. whole_past ts r z h.2)
   where
     go : (c : Class) → past_at c (past_comma ts) ts ≡ Some r → (past_comma ts ≡ Some r → Whole r) → Whole r
     go (gap g) w k = k w
-    go (mark Open) w k = absurd (some_none r (sym w))
-    go (mark Close) w k = absurd (some_none r (sym w))
+    go (mark Open) w k = absurd (none-some r w)
+    go (mark Close) w k = absurd (none-some r w)
     go (mark Comma) w k = (let z : ts ≡ r = cc in subst Whole z h.2)
-    go (mark Colon) w k = absurd (some_none r (sym w))
-    go (mark Name) w k = absurd (some_none r (sym w))
-    go value w k = absurd (some_none r (sym w))
+    go (mark Colon) w k = absurd (none-some r w)
+    go (mark Name) w k = absurd (none-some r w)
+    go value w k = absurd (none-some r w)
 
 closed_comments : (bs ts : Nodes) → Whole ts → comments (closed bs ts (past_comma ts)) ≡ notes_before (back_line bs) ++ (followed (lay (pieces ts) false) (after_comma (lay (pieces ts) false))).behind
 closed_comments bs ts w =

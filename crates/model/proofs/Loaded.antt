@@ -1,18 +1,19 @@
 -- The tree of a text that the reader takes is a document. Assumes nothing.
-use Rattle.std.proofs.Common.{◌≡◌, ℕ, zero, suc, ◌+◌, Bool, true, false, ◌⊎◌, List, [], ◌∷◌, ◌++◌, sym, refl, ap, ◌∙◌, subst, inl, inr, true≢false, arith}
+use Rattle.std.proofs.Common.{◌≡◌, ℕ, zero, suc, ◌+◌, Bool, true, false, ◌⊎◌, List, [], ◌∷◌, sym, refl, ap, ◌∙◌, subst, inl, inr, arith}
 use mathlib.Core.Bool.{false≢true}
 use Rattle.grammar.specs.Parse.{ok, bad, deep, Res, res, Lang, Free, iterate}
-use Rattle.grammar.specs.Classes.{Blank}
 use Rattle.grammar.specs.Layout.{Line, Block}
-use Rattle.grammar.specs.Grammar.{All, Frame, brackets, braces}
+use Rattle.grammar.specs.Grammar.{Frame, brackets, braces}
 use Rattle.grammar.specs.Pieces.{Token, comma, colon, Leaf, null, boolean, number, string, name, token, whitespace, newline, comment, Box, array, object, property, Pieces, end as no_pieces, leaf, box, join, nodes, mark_of}
-use Rattle.grammar.specs.Reader.{joins, only_leaf, open_token, close_token, box_of, ValueFirst, text_p}
+use Rattle.grammar.specs.Reader.{joins, only_leaf, open_token, close_token, box_of, text_p}
 use Rattle.grammar.specs.Answer.{Read, read, whole}
-use Rattle.grammar.proofs.Laws.{Means, covers_ok}
-use Rattle.grammar.proofs.Trivias.{Blanks, NewlineL, ClosedL, a_block, a_line, OpenMore, stop_wide}
-use Rattle.grammar.proofs.Gaps.{UnitL, RunL, TriviaL, trail, trail_run}
+use Rattle.grammar.proofs.Laws.{Means}
+use Rattle.grammar.proofs.Trivias.{Blanks, NewlineL, ClosedL, a_block, a_line}
+use Rattle.grammar.proofs.Gaps.{UnitL, RunL, TriviaL, trail}
 use Rattle.grammar.proofs.Values.{AheadL, TokenL, ScalarL, CloseL, EndL, AfterItemL, FromItemL, MemberL, ItemL, TurnL, ContainerL, NestedL, ValueL, value_laws}
-use Rattle.grammar.proofs.Texts.{TextL, text_laws}
+use Rattle.grammar.proofs.Laid.{blanks_all}
+use Rattle.grammar.proofs.Sentences.{stops, goes as goes_on, never_on, shut_of}
+use Rattle.grammar.proofs.Texts.{TextL, text_laws, front_trivia}
 use Rattle.model.specs.Nodes.{Gap, blank, break, remark, mark, value, leaf_class, numbered, loaded}
 use Rattle.model.specs.Fits.{Owner, top, of, Pos, start, items, next, named, only, shut, State, here, loose, spaced, gapped, step, run, begin, Ends, element, leaf_role, box_role, takes, Taken, Fits, Spelled, Whole, Document}
 
@@ -89,10 +90,12 @@ stay f q = record { moves = refl; taken = tt; whole = tt }
 pub one_leaf : (f : Owner) (q r : State) (x : Leaf) → step q (leaf_class x) ≡ r → takes f (leaf_role x) ≡ true → Spelled x → Goes f q r (only_leaf x)
 one_leaf f q r x e t h = record { moves = e; taken = (t, tt); whole = (h, tt) }
 
--- trivia, where it may stand
-blanks_all : (u : List ℕ) → Blanks u → All Blank u
-blanks_all u l = subst (All Blank) (sym (l.2 ∙ ap (λ y. y ++ l.1) l.3.1)) (l.3.2, l.4)
+-- a line break ends a line comment
+pub break_shuts : (q : Pos) (l : Bool) → spaced true q l break ≡ here q false
+break_shuts q true = refl
+break_shuts q false = refl
 
+-- trivia, where it may stand
 module _ (f : Owner) (q : Pos) (z : loose q ≡ true) where
   gap_goes : (l : Bool) (g : Gap) → gapped q l g ≡ spaced true q l g
   gap_goes l g = ap (λ v. spaced v q l g) z
@@ -101,11 +104,7 @@ module _ (f : Owner) (q : Pos) (z : loose q ≡ true) where
   space_goes x u e h = subst (Goes f (here q false) (here q false)) (sym e) (one_leaf f (here q false) (here q false) (whitespace u) (gap_goes false blank) refl (blanks_all u h))
 
   break_goes : (l : Bool) (x : Pieces) (u : List ℕ) → NewlineL x u → Goes f (here q l) (here q false) x
-  break_goes l x u (k, e, d) = subst (Goes f (here q l) (here q false)) (sym e) (one_leaf f (here q l) (here q false) (newline k) (gap_goes l break ∙ go l) refl tt)
-    where
-      go : (l : Bool) → spaced true q l break ≡ here q false
-      go true = refl
-      go false = refl
+  break_goes l x u (k, e, d) = subst (Goes f (here q l) (here q false)) (sym e) (one_leaf f (here q l) (here q false) (newline k) (gap_goes l break ∙ break_shuts q l) refl tt)
 
   closed_goes : (x : Pieces) {u : List ℕ} → ClosedL x u → Goes f (here q false) (here q false) x
   closed_goes x {u = u} (a_block e h) = subst (Goes f (here q false) (here q false)) (sym e) (one_leaf f (here q false) (here q false) (comment (Block u)) (gap_goes false (remark (Block u))) refl h)
@@ -175,28 +174,6 @@ comma_takes : (F : Frame) → takes (of (box_of F)) (leaf_role (token comma)) �
 comma_takes brackets = refl
 comma_takes braces = refl
 
--- the parts of what is joined
-record Parted (L M : Pieces → Type 0) (c : Pieces) : Type 0 where
-  a : Pieces
-  d : Pieces
-  joined : join a d ≡ c
-  fst : L a
-  snd : M d
-
-stops : (L : Lang Pieces) (M : Lang (Pieces ⊎ Pieces)) (c : Pieces) (u : List ℕ) → AheadL L M (inr c) u → Parted (λ a. (v : List ℕ) × L a v) (λ d. (w : List ℕ) × M (inr d) w) c
-stops L M c u ((a, inl d), e, l) = (let z : ◌≡◌ {A = ℕ} 0 1 = cc in absurd (omega arith))
-stops L M c u ((a, inr d), e, l) = record { a = a; d = d; joined = cc; fst = (l.0, l.3); snd = (l.1, l.4) }
-
-goes_on : (L : Lang Pieces) (M : Lang (Pieces ⊎ Pieces)) (c : Pieces) (u : List ℕ) → AheadL L M (inl c) u → Parted (λ a. (v : List ℕ) × L a v) (λ d. (w : List ℕ) × M (inl d) w) c
-goes_on L M c u ((a, inl d), e, l) = record { a = a; d = d; joined = cc; fst = (l.0, l.3); snd = (l.1, l.4) }
-goes_on L M c u ((a, inr d), e, l) = (let z : ◌≡◌ {A = ℕ} 0 1 = cc in absurd (omega arith))
-
-never_on : (F : Frame) (c : Pieces) (u : List ℕ) → CloseL F (inl c) u → ⊥
-never_on F c u l = (let e = l.1 in let z : ◌≡◌ {A = ℕ} 0 1 = cc in omega arith)
-
-shut_of : (F : Frame) (c : Pieces) (u : List ℕ) → CloseL F (inr c) u → TokenL (close_token F) c u
-shut_of F c u l = (let e = l.1 in let i : l.0 ≡ c = cc in subst (λ y. TokenL (close_token F) y u) i l.2)
-
 -- a container, by its children
 pub boxed : (b : Box) (f : Owner) (q r : State) (c : Pieces) → step q value ≡ r → takes f (box_role b) ≡ true → Goes (of b) (here start false) (here shut false) c → Goes f q r (box b c no_pieces)
 boxed b f q r c e t h = record { moves = e; taken = (t, tt); whole = (record { ends = subst (Ends (of b)) (sym h.moves) tt; taken = h.taken }, h.whole, tt) }
@@ -222,7 +199,7 @@ module _ (V : Lang Pieces) (inside : (a : Pieces) (u : List ℕ) → V a u → S
 
   final_goes : (F : Frame) (c : Pieces) (u : List ℕ) → TurnL V F (inr c) u → Goes (of (box_of F)) (here items false) (here shut false) c
   final_goes F c u l = (let m = stops (TriviaL false) (λ x u. CloseL F x u ⊎ FromItemL V F x u) c u l in
-      subst (Goes O (here items false) (here shut false)) m.joined (on O (here items false) (here items false) (here shut false) m.a m.d (trivia_goes O items refl m.a m.fst.0 m.fst.1) (go m.d m.snd.0 m.snd.1)))
+      subst (Goes O (here items false) (here shut false)) m.joined (on O (here items false) (here items false) (here shut false) m.a m.d (trivia_goes O items refl m.a m.v m.fst) (go m.d m.w m.snd)))
     where
       O : Owner
       O = of (box_of F)
@@ -231,23 +208,23 @@ module _ (V : Lang Pieces) (inside : (a : Pieces) (u : List ℕ) → V a u → S
       go d w (inl k) = token_goes (of (box_of F)) (here items false) (here shut false) (close_token F) d w (shut_of F d w k) (close_moves F).0 (close_takes F)
       go d w (inr k) =
           let p = stops (ItemL V F) (AfterItemL F) d w k in
-          let q = stops (TriviaL false) (EndL F) p.d p.snd.0 p.snd.1 in
-          subst (Goes (of (box_of F)) (here items false) (here shut false)) p.joined (on (of (box_of F)) (here items false) (here next false) (here shut false) p.a p.d (item_goes F p.a p.fst.0 p.fst.1)
-          (subst (Goes (of (box_of F)) (here next false) (here shut false)) q.joined (on (of (box_of F)) (here next false) (here next false) (here shut false) q.a q.d (trivia_goes (of (box_of F)) next refl q.a q.fst.0 q.fst.1)
-          (token_goes (of (box_of F)) (here next false) (here shut false) (close_token F) q.d q.snd.0 q.snd.1 (close_moves F).1 (close_takes F)))))
+          let q = stops (TriviaL false) (EndL F) p.d p.w p.snd in
+          subst (Goes (of (box_of F)) (here items false) (here shut false)) p.joined (on (of (box_of F)) (here items false) (here next false) (here shut false) p.a p.d (item_goes F p.a p.v p.fst)
+          (subst (Goes (of (box_of F)) (here next false) (here shut false)) q.joined (on (of (box_of F)) (here next false) (here next false) (here shut false) q.a q.d (trivia_goes (of (box_of F)) next refl q.a q.v q.fst)
+          (token_goes (of (box_of F)) (here next false) (here shut false) (close_token F) q.d q.w q.snd (close_moves F).1 (close_takes F)))))
 
   turn_goes : (F : Frame) (c : Pieces) (u : List ℕ) → TurnL V F (inl c) u → Goes (of (box_of F)) (here items false) (here items false) c
   turn_goes F c u l = (let m = goes_on (TriviaL false) (λ x u. CloseL F x u ⊎ FromItemL V F x u) c u l in
-      subst (Goes (of (box_of F)) (here items false) (here items false)) m.joined (on (of (box_of F)) (here items false) (here items false) (here items false) m.a m.d (trivia_goes (of (box_of F)) items refl m.a m.fst.0 m.fst.1) (go m.d m.snd.0 m.snd.1)))
+      subst (Goes (of (box_of F)) (here items false) (here items false)) m.joined (on (of (box_of F)) (here items false) (here items false) (here items false) m.a m.d (trivia_goes (of (box_of F)) items refl m.a m.v m.fst) (go m.d m.w m.snd)))
     where
       go : (d : Pieces) (w : List ℕ) → CloseL F (inl d) w ⊎ FromItemL V F (inl d) w → Goes (of (box_of F)) (here items false) (here items false) d
       go d w (inl k) = absurd (never_on F d w k)
       go d w (inr k) =
           let p = goes_on (ItemL V F) (AfterItemL F) d w k in
-          let q = goes_on (TriviaL false) (EndL F) p.d p.snd.0 p.snd.1 in
-          subst (Goes (of (box_of F)) (here items false) (here items false)) p.joined (on (of (box_of F)) (here items false) (here next false) (here items false) p.a p.d (item_goes F p.a p.fst.0 p.fst.1)
-          (subst (Goes (of (box_of F)) (here next false) (here items false)) q.joined (on (of (box_of F)) (here next false) (here next false) (here items false) q.a q.d (trivia_goes (of (box_of F)) next refl q.a q.fst.0 q.fst.1)
-          (token_goes (of (box_of F)) (here next false) (here items false) comma q.d q.snd.0 q.snd.1 refl (comma_takes F)))))
+          let q = goes_on (TriviaL false) (EndL F) p.d p.w p.snd in
+          subst (Goes (of (box_of F)) (here items false) (here items false)) p.joined (on (of (box_of F)) (here items false) (here next false) (here items false) p.a p.d (item_goes F p.a p.v p.fst)
+          (subst (Goes (of (box_of F)) (here next false) (here items false)) q.joined (on (of (box_of F)) (here next false) (here next false) (here items false) q.a q.d (trivia_goes (of (box_of F)) next refl q.a q.v q.fst)
+          (token_goes (of (box_of F)) (here next false) (here items false) comma q.d q.w q.snd refl (comma_takes F)))))
 
   items_goes : (F : Frame) (xs : List Pieces) (c : Pieces) (u : List ℕ) → iterate (TurnL V F) (λ _. []) xs c u → Goes (of (box_of F)) (here items false) (here shut false) (joins xs c)
   items_goes F [] c u l = final_goes F c u l
@@ -270,29 +247,6 @@ value_goes zero a u (inr l) = scalar_goes a u l
 value_goes (suc n) a u (inl (inl l)) = container_goes (ValueL n) (value_goes n) brackets a u l
 value_goes (suc n) a u (inl (inr l)) = container_goes (ValueL n) (value_goes n) braces a u l
 value_goes (suc n) a u (inr l) = scalar_goes a u l
-
--- trivia in front of a value ends in no open line comment
-close_unit : (x : Pieces) (v : List ℕ) → UnitL true (inl x) v → UnitL false (inl x) v
-close_unit x v (inl (inl l)) = inl (inl l)
-close_unit x v (inl (inr l)) = inl (inr l)
-close_unit x v (inr l) = absurd l
-
-close_run : (xs : List Pieces) (c : Pieces) (u : List ℕ) → RunL true xs c u → RunL false xs c u ⊎ (stop_wide c ≡ OpenMore)
-close_run [] c u (inl (inl l)) = inr (ap stop_wide l.1)
-close_run [] c u (inl (inr l)) = absurd l
-close_run [] c u (inr l) = inl (inr l)
-close_run (x ∷ xs) c u l = elim (close_run xs c l.1 l.5)
-    [ inl k ↦ inl (l.0, l.1, l.2, close_unit x l.0 l.3, l.4, k) | inr e ↦ inr e ]
-
-value_open : (n : ℕ) (a : Pieces) (u v : List ℕ) → ValueL n a u → Free OpenMore (u ++ v) → ⊥
-value_open n a [] v l f = false≢true ((value_laws n).null_ok a l)
-value_open n a (b ∷ u) v l f = true≢false (sym (covers_ok OpenMore ValueFirst refl b ((value_laws n).first_ok a b u l)) ∙ f)
-
-front_trivia : (n : ℕ) (x a : Pieces) (u w v : List ℕ) → TriviaL true x u → Free (trail x) (w ++ v) → ValueL n a w → TriviaL false x u
-front_trivia n x a u w v ((xs, c), e, l) f k = elim (close_run xs c u l) [
-  | inl r ↦ ((xs, c), e, r)
-  | inr z ↦ absurd (value_open n a w v k (subst (λ y. Free y (w ++ v)) (ap trail (sym e) ∙ trail_run true xs c u l ∙ z) f))
-]
 
 -- a whole text
 record Texted (a : Pieces) : Type 0 where

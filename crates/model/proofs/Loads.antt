@@ -1,9 +1,10 @@
 -- A newly loaded tree: its pieces, its nodes in text order, its comments and its value. Assumes nothing.
-use Rattle.std.proofs.Common.{◌≡◌, ℕ, zero, suc, ◌+◌, ◌<◌, ◌≤◌, Bool, true, false, eqb, ◌⊎◌, List, [], ◌∷◌, ◌++◌, refl, ap, ◌∙◌, inl, inr, arith}
-use Rattle.std.proofs.lemmas.Bool.{cases_eq, cases_lt, eq-eqb, ne_eqb, cond-true, cond-false}
+use Rattle.std.proofs.Common.{◌≡◌, ℕ, zero, suc, ◌+◌, ◌<◌, ◌≤◌, Bool, true, false, ◌⊎◌, List, [], ◌∷◌, ◌++◌, refl, ap, ◌∙◌, inl, inr, arith}
+use Rattle.std.proofs.lemmas.Bool.{cases_eq, cases_lt}
 use Rattle.grammar.specs.Layout.{Comment, meaning, notes, Parts, nil, part}
 use Rattle.grammar.specs.Pieces.{Leaf, null, boolean, number, string, name, token, whitespace, newline, comment, Box, array, object, property, Pieces, end as no_pieces, leaf, box, nodes, lay, label_of as piece_label}
-use Rattle.forest.specs.Forest.{end, node, one, count, size, places}
+use Rattle.forest.specs.Forest.{end, node, count, size, places}
+use Rattle.forest.proofs.Frames.{one_eq, one_other}
 use Rattle.model.specs.Nodes.{Handle, handle, Sort, root, within, single, Own, Nodes, Gap, blank, break, remark, Class, gap, mark, value, class, leaf_class, pieces, numbered, parts, parts_at, label_of, box_label, leaf_label}
 use Rattle.model.specs.Fits.{IsEnd, Holds, Whole, comments, remarks_of, bare}
 use Rattle.model.specs.Numbers.{numbers}
@@ -45,34 +46,28 @@ numbers_numbered p n (box b c r) =
     ∙ (ap (λ y. n ∷ (up_from (suc n) (nodes c) ++ y)) (numbers_numbered (suc (p + nodes c)) (suc (n + nodes c)) r)
     ∙ (ap (λ y. n ∷ (up_from (suc n) (nodes c) ++ up_from y (nodes r))) (omega arith) ∙ ap (λ y. n ∷ y) (up-++ (suc n) (nodes c) (nodes r))))
 
-one_is : (p k : ℕ) → p ≡ k → one p k ≡ 1
-one_is p k e = cond-true (eqb p k) 1 0 (eq-eqb p k e)
-
-one_not : (p k : ℕ) → (p ≡ k → ⊥) → one p k ≡ 0
-one_not p k e = cond-false (eqb p k) 1 0 (ne_eqb p k e)
-
 -- no place outside
 pub count_outside : (k p n : ℕ) (a : Pieces) → (k < p) ⊎ (p + nodes a ≤ k) → count k (numbered p n a) ≡ 0
 count_outside k p n no_pieces h = refl
-count_outside k p n (leaf x r) (inl h) = omega (arith, one_not p k (λ e. omega arith), count_outside k (suc p) (suc n) r (inl (omega arith)))
-count_outside k p n (leaf x r) (inr h) = omega (arith, one_not p k (λ e. omega arith), count_outside k (suc p) (suc n) r (inr (omega arith)))
-count_outside k p n (box b c r) (inl h) = omega (arith, one_not p k (λ e. omega arith), count_outside k (suc p) (suc n) c (inl (omega arith)), count_outside k (suc (p + nodes c)) (suc (n + nodes c)) r (inl (omega arith)))
-count_outside k p n (box b c r) (inr h) = omega (arith, one_not p k (λ e. omega arith), count_outside k (suc p) (suc n) c (inr (omega arith)), count_outside k (suc (p + nodes c)) (suc (n + nodes c)) r (inr (omega arith)))
+count_outside k p n (leaf x r) (inl h) = omega (arith, one_other p k (λ e. omega arith), count_outside k (suc p) (suc n) r (inl (omega arith)))
+count_outside k p n (leaf x r) (inr h) = omega (arith, one_other p k (λ e. omega arith), count_outside k (suc p) (suc n) r (inr (omega arith)))
+count_outside k p n (box b c r) (inl h) = omega (arith, one_other p k (λ e. omega arith), count_outside k (suc p) (suc n) c (inl (omega arith)), count_outside k (suc (p + nodes c)) (suc (n + nodes c)) r (inl (omega arith)))
+count_outside k p n (box b c r) (inr h) = omega (arith, one_other p k (λ e. omega arith), count_outside k (suc p) (suc n) c (inr (omega arith)), count_outside k (suc (p + nodes c)) (suc (n + nodes c)) r (inr (omega arith)))
 
 -- each place inside once
 pub count_inside : (k p n : ℕ) (a : Pieces) → p ≤ k → k < p + nodes a → count k (numbered p n a) ≡ 1
 count_inside k p n no_pieces h l = absurd (omega arith)
 count_inside k p n (leaf x r) h l =
     elim (cases_eq p k) [
-      | inl e ↦ omega (arith, one_is p k e, count_outside k (suc p) (suc n) r (inl (omega arith)))
-      | inr d ↦ (let g : suc p ≤ k = omega (arith, d) in omega (arith, one_not p k d, count_inside k (suc p) (suc n) r g (omega arith)))
+      | inl e ↦ omega (arith, one_eq p k e, count_outside k (suc p) (suc n) r (inl (omega arith)))
+      | inr d ↦ (let g : suc p ≤ k = omega (arith, d) in omega (arith, one_other p k d, count_inside k (suc p) (suc n) r g (omega arith)))
     ]
 count_inside k p n (box b c r) h l =
     elim (cases_eq p k) [
-      | inl e ↦ omega (arith, one_is p k e, count_outside k (suc p) (suc n) c (inl (omega arith)), count_outside k (suc (p + nodes c)) (suc (n + nodes c)) r (inl (omega arith)))
+      | inl e ↦ omega (arith, one_eq p k e, count_outside k (suc p) (suc n) c (inl (omega arith)), count_outside k (suc (p + nodes c)) (suc (n + nodes c)) r (inl (omega arith)))
       | inr d ↦ (let g : suc p ≤ k = omega (arith, d) in elim (cases_lt k (suc (p + nodes c))) [
-        | inl i ↦ omega (arith, one_not p k d, count_inside k (suc p) (suc n) c g (omega arith), count_outside k (suc (p + nodes c)) (suc (n + nodes c)) r (inl i))
-        | inr o ↦ omega (arith, one_not p k d, count_outside k (suc p) (suc n) c (inr (omega arith)), count_inside k (suc (p + nodes c)) (suc (n + nodes c)) r o (omega arith))
+        | inl i ↦ omega (arith, one_other p k d, count_inside k (suc p) (suc n) c g (omega arith), count_outside k (suc (p + nodes c)) (suc (n + nodes c)) r (inl i))
+        | inr o ↦ omega (arith, one_other p k d, count_outside k (suc p) (suc n) c (inr (omega arith)), count_inside k (suc (p + nodes c)) (suc (n + nodes c)) r o (omega arith))
       ])
     ]
 

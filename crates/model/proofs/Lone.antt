@@ -1,6 +1,7 @@
 -- A document has one value at most, so every value and member of it has a path. Assumes nothing.
 use Rattle.std.proofs.Common.{◌≡◌, ℕ, zero, suc, Bool, true, false, List, Some, sym, refl, ap, ◌∙◌, arith}
 use mathlib.Core.Bool.{false≢true}
+use Rattle.std.proofs.lemmas.Option.{none-some}
 use Rattle.grammar.specs.Layout.{Line, Block, Mark, Parts, nil, part}
 use Rattle.grammar.specs.Pieces.{Leaf, null, boolean, number, string, name, token, whitespace, newline, comment}
 use Rattle.forest.specs.Forest.{end, node}
@@ -8,7 +9,6 @@ use Rattle.model.specs.Nodes.{Handle, handle, Sort, root, within, single, Nodes,
 use Rattle.model.specs.Asks.{at}
 use Rattle.model.specs.Fits.{top, items, next, here, step, run, Ends, role, takes, Taken, Document}
 use Rattle.model.proofs.Prints.{no_dead}
-use Rattle.model.proofs.Removes.{some_none}
 
 -- no mark stands among the root's children
 leaf_unmarked : (x : Leaf) (m : Mark) → takes top (role (single x)) ≡ true → class (single x) ≡ mark m → ⊥
@@ -75,6 +75,6 @@ lone ts d = lone_from false ts d.fits.taken d.fits.ends
 
 -- so what is at an ordinal is at the first
 pub first_only : (v : Parts Handle) (n : ℕ) (q : List ℕ) (h : Handle) → Lone v → at v n q ≡ Some h → n ≡ 0
-first_only nil n q h l e = absurd (some_none h (sym e))
+first_only nil n q h l e = absurd (none-some h e)
 first_only (part i m ks ts) zero q h l e = refl
-first_only (part i m ks ts) (suc n) q h l e = absurd (some_none h (sym (ap (λ y. at y n q) (sym l) ∙ e)))
+first_only (part i m ks ts) (suc n) q h l e = absurd (none-some h (ap (λ y. at y n q) (sym l) ∙ e))

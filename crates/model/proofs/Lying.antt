@@ -1,20 +1,16 @@
 -- Where a handle's node lies: by its spot, and by its path in the value. Assumes nothing.
 use Rattle.std.proofs.Common.{◌≡◌, ℕ, zero, suc, ◌+◌, ◌<◌, ◌≤◌, Bool, true, false, cond, ◌&&◌, eqb, ltb, List, [], ◌∷◌, Some, None, Option, sym, refl, ap, ◌∙◌, subst, arith}
 use Rattle.std.proofs.lemmas.Bool.{eqb-true, eq-eqb, ltb-true, cond_both}
+use Rattle.std.proofs.lemmas.Option.{same_Some, none-some}
 use Rattle.forest.specs.Forest.{end, node, count}
 use Rattle.model.specs.Nodes.{Handle, handle, same, root, Own, Nodes, Class, gap, mark, value, class, pieces, parts, parts_at, label_of}
 use Rattle.model.specs.Asks.{Frame, Spot, spot_in, spot_at, numbered_so, named, then, sort_of, spot_handle, Way, inside as level, behind, or_else, way_to, from_root, path_to, path}
 use Rattle.model.specs.Fits.{Whole}
 use Rattle.model.specs.Changes.{Placed}
 use Rattle.model.specs.Accounted.{counted, Among, first, later, Below, child, deeper, along, Lies, on_top, inside}
-use Rattle.model.proofs.Removes.{some_none}
 use Rattle.model.proofs.Spots.{Spotted, the_root, a_node, spot_found}
 use Rattle.model.proofs.Ways.{off, as_value}
 use Rattle.model.proofs.Walks.{holder, among_count, below_count}
-
--- what is there is one
-some_same : {A : Type 0} (a b : A) → Some a ≡ Some b → a ≡ b
-some_same a b e = cc
 
 -- THE WAY TO A HANDLE
 
@@ -81,11 +77,11 @@ data Placing (h : Handle) (us : List Frame) (ts : Nodes) (s : Spot) : Type 0 whe
 
 -- a value that is found is one of the siblings or below them
 placing : (k : ℕ) (us : List Frame) (bs ts : Nodes) (s : Spot) → Whole ts → ((c : ℕ) → count c ts ≤ 1) → class (sort_of s) ≡ value → spot_in k us bs ts ≡ Some s → Placing (spot_handle s) us ts s
-placing k us bs end s w o v = λ e. absurd (some_none s (sym e))
+placing k us bs end s w o v = λ e. absurd (none-some s e)
 placing k us bs (node p i ks ts) s w o v =
     let f : Frame = record { before = bs; place = p; own = i; after = ts } in
     cond_both (eqb p k) (Some (record { here = f; kids = ks; ups = us })) (cond (ltb 0 (count k ks)) (spot_in k (f ∷ us) end ks) (spot_in k us (node p i ks bs) ts)) (λ y. y ≡ Some s → Placing (spot_handle s) us (node p i ks ts) s)
-    (λ z e. subst (λ y. class (sort_of y) ≡ value → Placing (spot_handle y) us (node p i ks ts) y) (some_same (record { here = f; kids = ks; ups = us }) s e) (λ v. beside refl 0 (first p i ks ts refl v)) v)
+    (λ z e. subst (λ y. class (sort_of y) ≡ value → Placing (spot_handle y) us (node p i ks ts) y) (same_Some (record { here = f; kids = ks; ups = us }) s e) (λ v. beside refl 0 (first p i ks ts refl v)) v)
     (λ z. cond_both (ltb 0 (count k ks)) (spot_in k (f ∷ us) end ks) (spot_in k us (node p i ks bs) ts) (λ y. y ≡ Some s → Placing (spot_handle s) us (node p i ks ts) s)
     (λ y e. (let x = holder i.sort k ks w.0 (ltb-true 0 (count k ks) y) in below (ap class x.1) (placing k (f ∷ us) end ks s w.1 (λ c. omega (arith, o c)) v e)))
     (λ y e. after (placing k us (node p i ks bs) ts s w.2 (λ c. omega (arith, o c)) v e)))
@@ -110,10 +106,10 @@ spot_lies : (k : ℕ) (ts : Nodes) (s : Spot) (f : Frame) (us : List Frame) → 
 spot_lies k ts s f us w d v u =
     let r : Frame = record { before = end; place = 0; own = record { number = 1; sort = root }; after = end } in
     cond_both (eqb 0 k) (Some (record { here = r; kids = ts; ups = [] })) (cond (ltb 0 (count k ts)) (spot_in k (r ∷ []) end ts) None) (λ y. y ≡ Some s → (n : ℕ) × (q : List ℕ) × Lies f.place (spot_handle s) ts n q)
-    (λ z e. (let x : ◌≡◌ {A = List Frame} [] (f ∷ us) = ap (λ y. y.ups) (some_same (record { here = r; kids = ts; ups = [] }) s e) ∙ u in let y : ◌≡◌ {A = ℕ} 0 1 = cc in absurd (omega arith)))
+    (λ z e. (let x : ◌≡◌ {A = List Frame} [] (f ∷ us) = ap (λ y. y.ups) (same_Some (record { here = r; kids = ts; ups = [] }) s e) ∙ u in let y : ◌≡◌ {A = ℕ} 0 1 = cc in absurd (omega arith)))
     (λ z. cond_both (ltb 0 (count k ts)) (spot_in k (r ∷ []) end ts) None (λ y. y ≡ Some s → (n : ℕ) × (q : List ℕ) × Lies f.place (spot_handle s) ts n q)
     (λ y e. go r refl (placing k (r ∷ []) end ts s w d.once v e))
-    (λ y e. absurd (some_none s (sym e))))
+    (λ y e. absurd (none-some s e)))
   where
     go : (r : Frame) → r.place ≡ 0 → Placing (spot_handle s) (r ∷ []) ts s → (n : ℕ) × (q : List ℕ) × Lies f.place (spot_handle s) ts n q
     go r z (beside e n a) = (n, [], on_top n (ap (λ y. y.place) (head_same f r us [] (sym u ∙ e)) ∙ z) a)
@@ -132,14 +128,14 @@ pub named_spot : (h : Handle) (ts : Nodes) (s : Spot) → named h ts ≡ Some s 
 named_spot h ts s = go (spot_at h.place ts) refl
   where
     go : (o : Option Spot) → spot_at h.place ts ≡ o → then o (numbered_so h.number) ≡ Some s → (spot_at h.place ts ≡ Some s) × (s.here.own.number ≡ h.number)
-    go None m = λ e. absurd (some_none s (sym e))
+    go None m = λ e. absurd (none-some s e)
     go (Some t) m = cond_both (eqb t.here.own.number h.number) (Some t) None (λ y. y ≡ Some s → (spot_at h.place ts ≡ Some s) × (s.here.own.number ≡ h.number))
-        (λ z e. (m ∙ e, ap (λ y. y.here.own.number) (sym (some_same t s e)) ∙ eqb-true t.here.own.number h.number z)) (λ z e. absurd (some_none s (sym e)))
+        (λ z e. (m ∙ e, ap (λ y. y.here.own.number) (sym (same_Some t s e)) ∙ eqb-true t.here.own.number h.number z)) (λ z e. absurd (none-some s e))
 
 -- with its path
 way_path : (n : ℕ) (q p : List ℕ) → from_root n q ≡ Some p → (n ≡ 0) × (q ≡ p)
 way_path zero q p e = (refl, cc)
-way_path (suc n) q p e = absurd (some_none p (sym e))
+way_path (suc n) q p e = absurd (none-some p e)
 
 -- a node that lies somewhere and has a path lies there
 pub path_lies : (c : ℕ) (h : Handle) (ts : Nodes) (n : ℕ) (q p : List ℕ) → Placed ts → path h (parts ts) ≡ Some p → Lies c h ts n q → Lies c h ts 0 p

@@ -2,6 +2,7 @@
 use Rattle.std.proofs.Common.{◌≡◌, ℕ, ◌+◌, ◌<◌, ◌≤◌, Bool, true, false, cond, ◌&&◌, eqb, ltb, ◌⊎◌, List, [], ◌∷◌, Some, None, Option, sym, refl, ap, ◌∙◌, subst, inl, inr, true≢false, arith}
 use mathlib.Core.Bool.{false≢true}
 use Rattle.std.proofs.lemmas.Bool.{cond_both, cond-true, cases_lt, eqb-true, eq-eqb, and_parts, and_from}
+use Rattle.std.proofs.lemmas.Option.{none-some}
 use Rattle.grammar.specs.Layout.{Line, Block}
 use Rattle.grammar.specs.Pieces.{open_array, close_array, open_object, close_object, comma, colon, line_feed, carriage_return, both, Leaf, null, boolean, number, string, name, token, whitespace, newline, comment, array, object, property, Pieces, end as no_pieces, leaf, box, nodes}
 use Rattle.forest.specs.Forest.{end, node, one, count}
@@ -21,7 +22,6 @@ use Rattle.model.proofs.Steps.{step_document}
 use Rattle.model.specs.Account.{Call, Do, Print, Ask}
 use Rattle.model.specs.Promise.{sort_named, after_call, Run, over, goes, Lasting}
 use Rattle.model.specs.Given.{often, Held, Moves, head_sort, LoadedLast, LoadedStays}
-use Rattle.model.proofs.Removes.{some_none}
 use Rattle.model.proofs.Edited.{at_count}
 use Rattle.model.proofs.Tally.{tally}
 use Rattle.model.proofs.Sowing.{Sows}
@@ -173,7 +173,7 @@ marks_often h s (node p i ks ts) = cond_both (is h s p i) 1 0 (λ y. y + (tally 
 
 -- a spot is where its node stands
 pub found_at : (k : ℕ) (us : List Frame) (bs ts : Nodes) (s : Spot) → spot_in k us bs ts ≡ Some s → At k s.here.own s.kids ts
-found_at k us bs end s = λ e. absurd (some_none s (sym e))
+found_at k us bs end s = λ e. absurd (none-some s e)
 found_at k us bs (node p i ks ts) s =
     let f : Frame = record { before = bs; place = p; own = i; after = ts } in
     cond_both (eqb p k) (Some (record { here = f; kids = ks; ups = us })) (cond (ltb 0 (count k ks)) (spot_in k (f ∷ us) end ks) (spot_in k us (node p i ks bs) ts)) (λ y. y ≡ Some s → At k s.here.own s.kids (node p i ks ts))
@@ -204,10 +204,10 @@ pub named_names : (d : State) (h : Handle) (s : Sort) → sort_named d h ≡ Som
 named_names d h s = go (spot_at h.place d.kids) refl
   where
     go : (o : Option Spot) → spot_at h.place d.kids ≡ o → then (then o (numbered_so h.number)) (λ x. Some (sort_of x)) ≡ Some s → Names h s (tree d.kids)
-    go None e = λ q. absurd (some_none s (sym q))
+    go None e = λ q. absurd (none-some s q)
     go (Some x) e = cond_both (eqb x.here.own.number h.number) (Some x) None (λ y. then y (λ x. Some (sort_of x)) ≡ Some s → Names h s (tree d.kids))
         (λ z q. (x.here.own, x.kids, found_at h.place [] end (tree d.kids) x e, eqb-true x.here.own.number h.number z, (let y : x.here.own.sort ≡ s = cc in y)))
-        (λ z q. absurd (some_none s (sym q)))
+        (λ z q. absurd (none-some s q))
 
 -- and a node with its place and number is what a handle answers
 names_named : (d : State) (h : Handle) (s : Sort) → count h.place (tree d.kids) ≤ 1 → Names h s (tree d.kids) → sort_named d h ≡ Some s
@@ -261,7 +261,7 @@ finished_moves d x g f s = record { grows = omega arith; names = names }
 
 -- the first new node is what the first new handle names
 sown_first : (u : Supply) (a : Pieces) (s : Sort) → head_sort a ≡ Some s → Names (record { place = next_place u.places; number = u.number }) s (sown u a)
-sown_first u no_pieces s e = absurd (some_none s (sym e))
+sown_first u no_pieces s e = absurd (none-some s e)
 sown_first u (leaf x r) s e = (record { number = u.number; sort = single x }, end, inl (refl, refl, refl), refl, (let y : single x ≡ s = cc in y))
 sown_first u (box b c r) s e = (record { number = u.number; sort = within b }, sown (skip 1 u) c, inl (refl, refl, refl), refl, (let y : within b ≡ s = cc in y))
 
@@ -392,7 +392,7 @@ module _ {S : Type 0} (says : S → Value) where
           let l = named_below d h m.1.0 g m.1.1 in
           gone_kind (unloaded f) (named h f.kids) (ap (λ z. eqb z 0) (y.same ∙ x.same) ∙ m.0)
           (λ s z. elim (y.moves.names h s z) [
-            | inl u ↦ some_none s (sym u ∙ n)
+            | inl u ↦ none-some s (sym n ∙ u)
             | inr u ↦ (let v = x.moves.grows in omega arith)
           ])
 

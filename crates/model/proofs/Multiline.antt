@@ -12,6 +12,7 @@ use Rattle.model.specs.Edits.{Supply, skip, sown, shuts, Piece, opens, closes, s
 use Rattle.model.specs.Fits.{Owner, Pos, start, items, next, named, only, shut, State, here, dead, loose, spaced, step, run, begin, Ends, title, takes, Taken, Fits, Whole, comments, remarks_of}
 use Rattle.model.proofs.Prints.{no_dead}
 use Rattle.model.proofs.Machine.{Untitled}
+use Rattle.model.proofs.Loaded.{break_shuts}
 use Rattle.model.proofs.Removes.{Kept, each_kept, kept_taken, kept_fits, sort_untitled}
 use Rattle.model.specs.Changes.{Each, Blanked}
 
@@ -96,16 +97,8 @@ lead_lining l stuff b h = part_lining l b h
 -- they may be written where trivia may stand, and end a line comment
 lining_ends : (f : Owner) (q : Pos) (l : Bool) (s : Supply) {a : Pieces} (ts : Nodes) → loose q ≡ true → Lining a → Ends f (run (here q l) ts) → Ends f (run (here q false) ts) → Ends f (run (here q l) (append (sown s a) ts))
 lining_ends f q l s ts z no_line e d = e
-lining_ends f q l s ts z (new_line k) e d = subst (λ y. Ends f (run y ts)) (sym (ap (λ v. spaced v q l break) z ∙ go l)) d
-  where
-    go : (l : Bool) → spaced true q l break ≡ here q false
-    go true = refl
-    go false = refl
-lining_ends f q l s ts z (new_lined k t h) e d = subst (λ y. Ends f (run (step y (gap blank)) ts)) (sym (ap (λ v. spaced v q l break) z ∙ go l)) (subst (λ v. Ends f (run (spaced v q false blank) ts)) (sym z) d)
-  where
-    go : (l : Bool) → spaced true q l break ≡ here q false
-    go true = refl
-    go false = refl
+lining_ends f q l s ts z (new_line k) e d = subst (λ y. Ends f (run y ts)) (sym (ap (λ v. spaced v q l break) z ∙ break_shuts q l)) d
+lining_ends f q l s ts z (new_lined k t h) e d = subst (λ y. Ends f (run (step y (gap blank)) ts)) (sym (ap (λ v. spaced v q l break) z ∙ break_shuts q l)) (subst (λ v. Ends f (run (spaced v q false blank) ts)) (sym z) d)
 
 lining_each : (f : Owner) (s : Supply) {a : Pieces} (ts : Nodes) → Lining a → Each (Kept f) ts → Each (Kept f) (append (sown s a) ts)
 lining_each f s ts no_line h = h

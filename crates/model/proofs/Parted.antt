@@ -1,13 +1,13 @@
 -- What edits of a child list do to the value with its handles. Assumes nothing.
 use Rattle.std.proofs.Common.{◌≡◌, ℕ, Bool, true, false, cond, not, ◌&&◌, eqb, Some, None, Option, sym, refl, ap, ◌∙◌, inl, inr, arith}
 use Rattle.std.proofs.lemmas.Bool.{eqb-true, cond_both, cond-true, cond-false}
+use Rattle.std.proofs.lemmas.Option.{none-some}
 use Rattle.grammar.specs.Layout.{Open, Close, Comma, Colon, Name, Parts, part}
 use Rattle.forest.specs.Forest.{end, node}
 use Rattle.model.specs.Nodes.{Handle, handle, Own, Nodes, blank, break, remark, Class, gap, mark, value, class, pieces, label_of, parts, parts_at}
 use Rattle.model.specs.Asks.{is_comma}
 use Rattle.model.specs.Edits.{onto, local_from, local, back_at, back_line, un_comma, past_at, past_comma, line_ends, solid_next, rest_at, drop_line, empty, tight_at, tight, tidy, closed, removal}
 use Rattle.model.specs.Changes.{At, lost}
-use Rattle.model.proofs.Removes.{some_none}
 
 -- the parts of the siblings before, nearest first, put before others
 abbrev pub lead : Nodes → Parts Handle → Parts Handle
@@ -45,17 +45,17 @@ lead_comma (node p i ks bs) v = go (class i.sort) (node p i ks (un_comma bs)) (l
     go value y h = h
 
 parts_past : (ts r : Nodes) → past_comma ts ≡ Some r → parts r ≡ parts ts
-parts_past end r w = absurd (some_none r (sym w))
+parts_past end r w = absurd (none-some r w)
 parts_past (node p i ks ts) r w = go (class i.sort) w (parts_past ts r)
   where
     go : (c : Class) → past_at c (past_comma ts) ts ≡ Some r → (past_comma ts ≡ Some r → parts r ≡ parts ts) → parts r ≡ parts_at c (handle p i) (label_of i.sort (pieces ks)) (parts ks) (parts ts)
     go (gap g) w k = k w
-    go (mark Open) w k = absurd (some_none r (sym w))
-    go (mark Close) w k = absurd (some_none r (sym w))
+    go (mark Open) w k = absurd (none-some r w)
+    go (mark Close) w k = absurd (none-some r w)
     go (mark Comma) w k = (let z : r ≡ ts = cc in ap parts z)
-    go (mark Colon) w k = absurd (some_none r (sym w))
-    go (mark Name) w k = absurd (some_none r (sym w))
-    go value w k = absurd (some_none r (sym w))
+    go (mark Colon) w k = absurd (none-some r w)
+    go (mark Name) w k = absurd (none-some r w)
+    go value w k = absurd (none-some r w)
 
 parts_line : (ts : Nodes) → parts (drop_line ts) ≡ parts ts
 parts_line end = refl

@@ -1,5 +1,5 @@
 -- Places and numbers are handed out once: so it is after load, and so it stays. Assumes nothing.
-use Rattle.std.proofs.Common.{◌≡◌, ℕ, zero, suc, ◌+◌, ◌-◌, ◌<◌, ◌≤◌, Bool, true, false, cond, eqb, ltb, List, [], ◌∷◌, length, drop, refl, ap, ◌∙◌, subst, inl, inr, arith, length-drop}
+use Rattle.std.proofs.Common.{◌≡◌, ℕ, zero, suc, ◌+◌, ◌-◌, ◌<◌, ◌≤◌, Bool, true, false, cond, eqb, ltb, List, [], ◌∷◌, length, drop, refl, ap, ◌∙◌, subst, inl, inr, arith, length-drop, drop-drop}
 use Rattle.std.proofs.lemmas.Bool.{cond_both, cond-true, cond-false, cases_lt, eqb-true, eqb-false, lt-ltb, le-ltb, ltb-false}
 use Rattle.grammar.specs.Pieces.{Pieces, end as no_pieces, leaf, box, nodes, stored}
 use Rattle.grammar.specs.Answer.{Answer, Read, BadText as Bad, TooDeep as Deep, read}
@@ -17,7 +17,7 @@ use Rattle.model.specs.State.{State, Outcome, Refused, Given, and_then, unless, 
 use Rattle.model.specs.Changes.{Placed}
 use Rattle.model.specs.Given.{below, often, Held}
 use Rattle.model.proofs.Loads.{size_numbered, places_numbered, numbers_numbered}
-use Rattle.model.proofs.Tally.{tally, drop_drop}
+use Rattle.model.proofs.Tally.{tally}
 use Rattle.model.proofs.Sowing.{Sows, Sowing, planned_sows}
 
 -- below it counts one
@@ -75,7 +75,7 @@ sown_places k n [] (leaf x r) l = absurd (omega arith)
 sown_places k n (p ∷ ps) (leaf x r) l = omega (arith, sown_places k (n + 1) ps r (omega arith))
 sown_places k n [] (box b c r) l = absurd (omega arith)
 sown_places k n (p ∷ ps) (box b c r) l =
-    omega (arith, sown_places k (n + 1) ps c (omega arith), sown_places k (n + suc (nodes c)) (drop (nodes c) ps) r (omega (arith, length-drop (nodes c) ps)), ap (occurs k) (drop_drop (nodes r) (nodes c) ps))
+    omega (arith, sown_places k (n + 1) ps c (omega arith), sown_places k (n + suc (nodes c)) (drop (nodes c) ps) r (omega (arith, length-drop (nodes c) ps)), ap (occurs k) (drop-drop (nodes r) (nodes c) ps))
 
 -- and the next numbers
 pub sown_often : (m : ℕ) (s : Supply) (a : Pieces) → often m (sown s a) + below m s.number ≡ below m (s.number + nodes a)
@@ -170,7 +170,7 @@ up_occurs k p zero = omega (arith, below_same k p (p + 0) (omega arith))
 up_occurs k p (suc n) = omega (arith, below_one k p, up_occurs k (suc p) n, below_same k (suc p) (p + 1) (omega arith), below_same k (suc p + n) (p + suc n) (omega arith))
 
 -- a row is as long as it says
-up_length : (p n : ℕ) → length (up_from p n) ≡ n
+pub up_length : (p n : ℕ) → length (up_from p n) ≡ n
 up_length p zero = refl
 up_length p (suc n) = omega (arith, up_length (suc p) n)
 

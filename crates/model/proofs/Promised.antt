@@ -1,7 +1,8 @@
 -- The promise: what every history of a loaded document gives. Assumes nothing.
-use Rattle.std.proofs.Common.{◌≡◌, ℕ, zero, suc, ◌<◌, ◌≤◌, Bool, true, false, cond, ◌||◌, T, eqb, ltb, List, [], ◌∷◌, length, Some, None, Option, sym, refl, ap, ◌∙◌, subst, inl, inr, arith}
+use Rattle.std.proofs.Common.{◌≡◌, ℕ, zero, suc, ◌≤◌, Bool, true, false, cond, ◌||◌, T, eqb, ltb, List, [], ◌∷◌, length, Some, None, Option, sym, refl, ap, ◌∙◌, subst, inl, inr, arith}
 use mathlib.Core.Bool.{false≢true}
 use Rattle.std.proofs.lemmas.Bool.{cond_both, cond-true, eq-eqb, ltb-true}
+use Rattle.std.proofs.lemmas.Option.{same_Some, none-some}
 use Rattle.grammar.specs.Layout.{meaning, levels, notes, Parts, nil, part}
 use Rattle.grammar.specs.Pieces.{Pieces, layout}
 use Rattle.grammar.specs.Answer.{Read, Judged, good}
@@ -18,8 +19,7 @@ use Rattle.model.specs.Account.{Call, Do, Print, Ask, Account, with_handles, ope
 use Rattle.model.specs.Accounted.{RemovesSo, ReplacesSo, SetsSo}
 use Rattle.model.specs.Promise.{printing, answered, at_of, takes, makes, after_call, Run, over, goes, fed, feds, makes_all, account_of, in_account, Known, Promise, Over, meant, ThePromise}
 use Rattle.model.specs.Given.{Held}
-use Rattle.model.proofs.Removes.{some_none}
-use Rattle.model.proofs.Edited.{at_count, at_once}
+use Rattle.model.proofs.Edited.{at_once}
 use Rattle.model.proofs.Stand.{stand}
 use Rattle.model.proofs.Spots.{Spotted, the_root, a_node, spot_found}
 use Rattle.model.proofs.Lying.{named_spot, same_refl, way_past, way_down}
@@ -29,7 +29,7 @@ use Rattle.model.proofs.Leaves.{accepted_planned}
 use Rattle.model.proofs.Settled.{account_laws, has_parent}
 use Rattle.model.proofs.Puts.{with_at}
 use Rattle.model.proofs.Lone.{Lone, lone}
-use Rattle.model.proofs.Whereabouts.{standing, depth, meaning_levels}
+use Rattle.model.proofs.Whereabouts.{standing, stands_there, depth, meaning_levels}
 use Rattle.model.proofs.Agrees.{Agree, reads, is_loaded, at_of_lem, named_of, edit_agrees}
 
 -- a newly loaded document is within 64 levels
@@ -97,28 +97,21 @@ prints_all e H n l =
     ap (λ b. unless b BadMemory (unless (ltb n (length (printing e))) (Short (length (printing e))) (Given (printing e)))) (is_loaded e H)
     ∙ cond_both (ltb n (length (printing e))) (Refused (Short (length (printing e)))) (Given (printing e)) (λ y. y ≡ Given (printing e)) (λ z. absurd (omega (arith, ltb-true n (length (printing e)) z))) (λ z. refl)
 
--- what is given twice is the same
-some_same : {A : Type 0} (a b : A) → Some a ≡ Some b → a ≡ b
-some_same a b e = cc
-
 -- what stands at a path has that way
 at_way : (ts : Nodes) (n : ℕ) (q : List ℕ) (h : Handle) → at (parts ts) n q ≡ Some h → count h.place ts ≤ 1 → way_to h (parts ts) ≡ Some (n, q)
-at_way end n q h e o = absurd (some_none h (sym e))
+at_way end n q h e o = absurd (none-some h e)
 at_way (node p i ks ts) n q h e o = go (λ j q. at_way ks j q h) (λ j q. at_way ts j q h) (class i.sort) refl n q e
   where
-    there : (vs : Nodes) (n : ℕ) (q : List ℕ) → at (parts vs) n q ≡ Some h → 0 < count h.place vs
-    there vs n q e = (let x = standing vs n q h e in at_count h.place x.own x.kids vs x.stands)
-
     V : Class → Parts Handle
     V c = parts_at c (handle p i) (label_of i.sort (pieces ks)) (parts ks) (parts ts)
 
     go : ((j : ℕ) (q : List ℕ) → at (parts ks) j q ≡ Some h → count h.place ks ≤ 1 → way_to h (parts ks) ≡ Some (j, q)) → ((j : ℕ) (q : List ℕ) → at (parts ts) j q ≡ Some h → count h.place ts ≤ 1 → way_to h (parts ts) ≡ Some (j, q))
         → (c : Class) → class i.sort ≡ c → (n : ℕ) (q : List ℕ) → at (V c) n q ≡ Some h → way_to h (V c) ≡ Some (n, q)
-    go A B (gap g) z n q e = (let c = there ts n q e in way_past h p i ks ts n q o c (B n q e (omega arith)) (gap g))
-    go A B (mark g) z n q e = (let c = there ts n q e in way_past h p i ks ts n q o c (B n q e (omega arith)) (mark g))
-    go A B value z zero [] e = cond-true (same (handle p i) h) (Some (0, [])) (or_else (inside (way_to h (parts ks))) (behind (way_to h (parts ts)))) (ap (λ y. same y h) (some_same (handle p i) h e) ∙ same_refl h)
-    go A B value z zero (j ∷ q) e = (let c = there ks j q e in sym (ap (λ c. way_to h (parts_at c (handle p i) (label_of i.sort (pieces ks)) (parts ks) (parts ts))) z) ∙ way_down h p i ks ts j q z o c (A j q e (omega arith)))
-    go A B value z (suc n) q e = (let c = there ts n q e in way_past h p i ks ts n q o c (B n q e (omega arith)) value)
+    go A B (gap g) z n q e = (let c = stands_there h ts n q e in way_past h p i ks ts n q o c (B n q e (omega arith)) (gap g))
+    go A B (mark g) z n q e = (let c = stands_there h ts n q e in way_past h p i ks ts n q o c (B n q e (omega arith)) (mark g))
+    go A B value z zero [] e = cond-true (same (handle p i) h) (Some (0, [])) (or_else (inside (way_to h (parts ks))) (behind (way_to h (parts ts)))) (ap (λ y. same y h) (same_Some (handle p i) h e) ∙ same_refl h)
+    go A B value z zero (j ∷ q) e = (let c = stands_there h ks j q e in sym (ap (λ c. way_to h (parts_at c (handle p i) (label_of i.sort (pieces ks)) (parts ks) (parts ts))) z) ∙ way_down h p i ks ts j q z o c (A j q e (omega arith)))
+    go A B value z (suc n) q e = (let c = stands_there h ts n q e in way_past h p i ks ts n q o c (B n q e (omega arith)) value)
 
 -- what stands at a path answers with it
 path_answers : (e : State) → Held e → (p : List ℕ) (h : Handle) (n : ℕ) → 128 ≤ n → at_path (parts e.kids) p ≡ Some h → path_answer e h n ≡ Given p
@@ -221,7 +214,7 @@ promise_of {S} says k d cs e a A m = record {
   remarks = sym (stand.document_says e.kids A.document).0 ∙ sym A.remarks;
   found = λ p. (ap (λ b. unless b BadMemory (present NotHere (at_path (parts e.kids) p))) (is_loaded e A.held) ∙ ap (λ v. present NotHere (at_path v p)) (sym A.value));
   path_found = λ p h n l f. path_answers e A.held p h n l (ap (λ v. at_path v p) (sym A.value) ∙ f);
-  gone = λ h i. gone_kind (unloaded e) (named h e.kids) (is_loaded e A.held) (λ s z. some_none s (sym z ∙ (A.left h i).0));
+  gone = λ h i. gone_kind (unloaded e) (named h e.kids) (is_loaded e A.held) (λ s z. none-some s (sym ((A.left h i).0) ∙ z));
   single = held_once e A.held;
   known = known;
 }

@@ -1,6 +1,7 @@
 -- A value put in the place of another, in any container: a property keeps its name. Assumes nothing.
 use Rattle.std.proofs.Common.{◌≡◌, ℕ, zero, suc, ◌≤◌, false, cond, eqb, List, [], ◌∷◌, ◌++◌, Some, Option, sym, refl, ap, ◌∙◌, subst, inl, inr, true≢false, arith}
 use Rattle.std.proofs.lemmas.Bool.{eqb-true, eq-eqb, cond_both}
+use Rattle.std.proofs.lemmas.Option.{none-some}
 use Rattle.grammar.specs.Layout.{Label, Member, Parts, nil, part}
 use Rattle.grammar.specs.Pieces.{Box, array, object, property, Pieces, name_of}
 use Rattle.forest.specs.Forest.{end, node, count, append}
@@ -15,9 +16,8 @@ use Rattle.model.specs.Accounted.{counted, Among, first, later, Below, child, de
 use Rattle.model.proofs.Prints.{no_dead}
 use Rattle.model.proofs.Edited.{at_count, at_once}
 use Rattle.model.proofs.Exchanges.{exchange_parts}
-use Rattle.model.proofs.Kept.{at_inside, parts_under}
+use Rattle.model.proofs.Kept.{at_inside, whole_at, parts_under}
 use Rattle.model.proofs.Spots.{holds_at}
-use Rattle.model.proofs.Removes.{some_none}
 use Rattle.model.proofs.Ways.{off}
 use Rattle.model.proofs.Walks.{among_count, below_count}
 
@@ -71,13 +71,6 @@ label_kept j array us vs e n = ap (λ s. label_of s us) e ∙ sym (ap (λ s. lab
 label_kept j object us vs e n = ap (λ s. label_of s us) e ∙ sym (ap (λ s. label_of s vs) e)
 label_kept j property us vs e n = ap (λ s. label_of s us) e ∙ (ap Member (n refl) ∙ sym (ap (λ s. label_of s vs) e))
 
--- what is whole is whole below
-whole_below : (c : ℕ) (j : Own) (ks ts : Nodes) → At c j ks ts → Whole ts → Whole ks
-whole_below c j ks end a w = absurd a
-whole_below c j ks (node p o vs ts) (inl a) w = subst Whole a.2 w.1
-whole_below c j ks (node p o vs ts) (inr (inl a)) w = whole_below c j ks vs a w.1
-whole_below c j ks (node p o vs ts) (inr (inr a)) w = whole_below c j ks ts a w.2
-
 -- the value of the whole after a value took another's place
 pub exchange_named : (c k : ℕ) (us ts : Nodes) → IsContainer c ts → IsElement k ts → Whole ts → parts (exchange c k us ts) ≡ changed_under c (swapped k (parts us)) (parts ts)
 exchange_named c k us ts b v w = parts_under c (local (exchanged us) k) ts (swapped k (parts us))
@@ -85,7 +78,7 @@ exchange_named c k us ts b v w = parts_under c (local (exchanged us) k) ts (swap
       ap class x.1,
       exchange_parts k us ks at-k,
       label_kept j x.0 (pieces (local (exchanged us) k ks)) (pieces ks) x.1
-          (λ e. name_exchanged k us ks (subst (λ y. Fits (of y) ks) e (subst (λ y. Holds y ks) x.1 (holds_at c j ks ts a w))) (whole_below c j ks ts a w) at-k),
+          (λ e. name_exchanged k us ks (subst (λ y. Fits (of y) ks) e (subst (λ y. Holds y ks) x.1 (holds_at c j ks ts a w))) (whole_at c j ks ts a w) at-k),
     )))
     (λ e. exchange_parts k us ts (λ i vs z. (v i vs z).0))
 
@@ -93,7 +86,7 @@ exchange_named c k us ts b v w = parts_under c (local (exchanged us) k) ts (swap
 
 -- the first value of a child list is the one of ordinal 0
 pub value_among : (o : Handle) (ts : Nodes) → ((k : ℕ) → count k ts ≤ 1) → value_in ts ≡ Some o → Among o ts 0
-value_among o end c = λ e. absurd (some_none o (sym e))
+value_among o end c = λ e. absurd (none-some o e)
 value_among o (node p i ks ts) c = go (class i.sort) refl (value_among o ts (λ k. omega (arith, c k)))
   where
     go : (x : Class) → class i.sort ≡ x → (value_in ts ≡ Some o → Among o ts 0) → cond (is_value x) (Some (handle p i)) (value_in ts) ≡ Some o → Among o (node p i ks ts) 0
@@ -150,7 +143,7 @@ with_at f (part i l ks ts) e h =
 
 -- straight after a value was put at a path, the paths below it answer with its handles
 at_change : (i : Handle) (l : Label) (ks us v : Parts Handle) (k : ℕ) (p q : List ℕ) (h : Handle) → at v k p ≡ Some h → at (change (instead (part i l ks us)) v k p) k (p ++ q) ≡ at (part i l ks nil) 0 q
-at_change i l ks us nil k p q h e = absurd (some_none h (sym e))
+at_change i l ks us nil k p q h e = absurd (none-some h e)
 at_change i l ks us (part j m vs ws) zero [] [] h e = refl
 at_change i l ks us (part j m vs ws) zero [] (n ∷ q) h e = refl
 at_change i l ks us (part j m vs ws) zero (n ∷ p) q h e = at_change i l ks us vs n p q h e

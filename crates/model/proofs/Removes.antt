@@ -2,6 +2,7 @@
 use Rattle.std.proofs.Common.{◌≡◌, ℕ, Bool, true, false, cond, not, ◌&&◌, eqb, ◌⊎◌, Some, None, Option, sym, refl, ap, ◌∙◌, subst, inl, inr, arith}
 use mathlib.Core.Bool.{false≢true}
 use Rattle.std.proofs.lemmas.Bool.{eqb-true, cond_both}
+use Rattle.std.proofs.lemmas.Option.{none-some}
 use Rattle.grammar.specs.Layout.{Line, Block, Mark, Open, Close, Comma, Colon, Name}
 use Rattle.grammar.specs.Pieces.{Token, Leaf}
 use Rattle.forest.specs.Forest.{end, node}
@@ -78,23 +79,20 @@ line_fits f q l (node p i ks ts) e =
     go (mark m) b x h e r = subst (Ends f) (sym h) (mark_goes f q l m ts e)
     go value b x h e r = subst (Ends f) (sym h) (value_goes f q l ts e)
 
-pub some_none : {A : Type 0} (a : A) → Some a ≡ None → ⊥
-some_none a e = (let z : ◌≡◌ {A = ℕ} 0 1 = cc in omega arith)
-
 -- behind the trailing comma
 pub past_fits : (f : Owner) (l : Bool) (ts r : Nodes) → past_comma ts ≡ Some r → Ends f (run (here next l) ts) → Ends f (run (here items false) r)
-past_fits f l end r w e = absurd (some_none r (sym w))
+past_fits f l end r w e = absurd (none-some r w)
 past_fits f l (node p i ks ts) r w e = go (class i.sort) w e (λ k. past_fits f k ts r)
   where
     go : (c : Class) → past_at c (past_comma ts) ts ≡ Some r → Ends f (run (step (here next l) c) ts)
         → ((k : Bool) → past_comma ts ≡ Some r → Ends f (run (here next k) ts) → Ends f (run (here items false) r)) → Ends f (run (here items false) r)
     go (gap g) w e h = (let k = gap_goes f next l g ts e in h k.0 w k.1)
-    go (mark Open) w e h = absurd (some_none r (sym w))
-    go (mark Close) w e h = absurd (some_none r (sym w))
+    go (mark Open) w e h = absurd (none-some r w)
+    go (mark Close) w e h = absurd (none-some r w)
     go (mark Comma) w e h = (let z : ts ≡ r = cc in subst (λ t. Ends f (run (here items false) t)) z (mark_goes f next l Comma ts e))
-    go (mark Colon) w e h = absurd (some_none r (sym w))
-    go (mark Name) w e h = absurd (some_none r (sym w))
-    go value w e h = absurd (some_none r (sym w))
+    go (mark Colon) w e h = absurd (none-some r w)
+    go (mark Name) w e h = absurd (none-some r w)
+    go value w e h = absurd (none-some r w)
 
 -- no trailing comma: as well where no item has come
 swap_gap : (f : Owner) (l : Bool) (g : Gap) (ts : Nodes) → ((k : Bool) → Ends f (run (here next k) ts) → Ends f (run (here items k) ts))
@@ -121,7 +119,7 @@ none_fits f l (node p i ks ts) w e = go (class i.sort) w e (λ h k. none_fits f 
     go (gap g) w e h = swap_gap f l g ts (h w) e
     go (mark Open) w e h = absurd (no_dead f ts (mark_goes f next l Open ts e))
     go (mark Close) w e h = close l e
-    go (mark Comma) w e h = absurd (some_none ts w)
+    go (mark Comma) w e h = absurd (none-some ts (sym w))
     go (mark Colon) w e h = absurd (no_dead f ts (mark_goes f next l Colon ts e))
     go (mark Name) w e h = absurd (no_dead f ts (mark_goes f next l Name ts e))
     go value w e h = absurd (no_dead f ts (value_goes f next l ts e))
@@ -209,17 +207,17 @@ module _ (P : Own → Nodes → Type 0) where
   each_comma (node p i ks bs) h = cond_both (is_comma (class i.sort)) bs (node p i ks (un_comma bs)) (Each P) (λ e. h.1) (λ e. (h.0, each_comma bs h.1))
 
   each_past : (ts r : Nodes) → past_comma ts ≡ Some r → Each P ts → Each P r
-  each_past end r w h = absurd (some_none r (sym w))
+  each_past end r w h = absurd (none-some r w)
   each_past (node p i ks ts) r w h = go (class i.sort) w (λ z. each_past ts r z h.1)
     where
       go : (c : Class) → past_at c (past_comma ts) ts ≡ Some r → (past_comma ts ≡ Some r → Each P r) → Each P r
       go (gap g) w k = k w
-      go (mark Open) w k = absurd (some_none r (sym w))
-      go (mark Close) w k = absurd (some_none r (sym w))
+      go (mark Open) w k = absurd (none-some r w)
+      go (mark Close) w k = absurd (none-some r w)
       go (mark Comma) w k = (let z : ts ≡ r = cc in subst (Each P) z h.1)
-      go (mark Colon) w k = absurd (some_none r (sym w))
-      go (mark Name) w k = absurd (some_none r (sym w))
-      go value w k = absurd (some_none r (sym w))
+      go (mark Colon) w k = absurd (none-some r w)
+      go (mark Name) w k = absurd (none-some r w)
+      go value w k = absurd (none-some r w)
 
   each_line : (ts : Nodes) → Each P ts → Each P (drop_line ts)
   each_line end h = tt

@@ -3,9 +3,9 @@ use Rattle.std.proofs.Common.{◌≡◌, ℕ, ◌≤◌, true, false, not, ◌&&
 use mathlib.Core.Bool.{false≢true}
 use Rattle.std.proofs.lemmas.Bool.{eqb-true, cond_both, and_parts, not-true}
 use Rattle.grammar.specs.Layout.{Parts, nil, part}
-use Rattle.grammar.specs.Pieces.{Break, array, object, property, layout}
+use Rattle.grammar.specs.Pieces.{Break, property, layout}
 use Rattle.forest.specs.Forest.{end, node, count}
-use Rattle.model.specs.Nodes.{Handle, handle, Sort, root, within, single, Own, Nodes, Class, gap, mark, value, class, pieces, parts, parts_at, label_of}
+use Rattle.model.specs.Nodes.{Handle, handle, Own, Nodes, Class, gap, mark, value, class, pieces, parts, parts_at, label_of}
 use Rattle.model.specs.Asks.{Frame, Spot, named, sort_of, spot_at, then, newline_kind, uses_trailing_commas, is_value, is_property, value_in, at, at_path, path_to}
 use Rattle.model.specs.Edits.{Supply, sown, remove, exchange, root_cut, root_put}
 use Rattle.model.specs.Written.{Value, Style, spelled, written, break_of}
@@ -23,7 +23,8 @@ use Rattle.model.proofs.Edited.{at_count}
 use Rattle.model.proofs.Kept.{at_inside, remove_value}
 use Rattle.model.proofs.Says.{written_says, written_quiet}
 use Rattle.model.proofs.Spots.{item_of, element_of, container_of, bracketed_of, root_bracketed, root_container, holds_at, parent_box, Parent, at_root, at_node, Spotted, the_root, a_node, spot_found}
-use Rattle.model.proofs.Steps.{no_title, sort_element, taken_element, none_trivial}
+use Rattle.model.proofs.Steps.{property_box, no_title, sort_element, taken_element, none_trivial}
+use Rattle.model.proofs.Writes.{one_spelled}
 use Rattle.model.proofs.Rooted.{root_says}
 use Rattle.model.proofs.Splits.{less_split}
 use Rattle.model.proofs.Loads.{whole_comments}
@@ -130,14 +131,6 @@ replace_accounted h ts s f p us x n u =
 
 -- SET_VALUE, SET_ROOT
 
--- a property is a container
-property_box : (s : Sort) → is_property s ≡ true → s ≡ within property
-property_box root e = absurd (false≢true e)
-property_box (within array) e = absurd (false≢true e)
-property_box (within object) e = absurd (false≢true e)
-property_box (within property) e = refl
-property_box (single x) e = absurd (false≢true e)
-
 -- one of siblings that are taken is there, and is taken
 among_node : (f : Owner) (h : Handle) (ts : Nodes) (n : ℕ) → Among h ts n → Taken f ts → (i : Own) × (us : Nodes) × At h.place i us ts × (class i.sort ≡ value) × (takes f (role i.sort) ≡ true)
 among_node f h _ _ (first p i ks ts e v) t = (i, ks, inl (ap (λ y. y.place) e, refl, refl), v, t.0)
@@ -190,23 +183,17 @@ one_alone : (v : Parts Handle) (w : Value) → bare v ≡ w → IsOne w → Alon
 one_alone nil w e h = subst IsOne (sym e) h
 one_alone (part i l ks ts) w e h = nil_one ts (bare ts) refl (subst IsOne (sym e) h)
 
--- one value escaped is one
-spelled_one : (v : Value) → IsOne v → IsOne (spelled v)
-spelled_one nil h = h
-spelled_one (part u l ks nil) h = tt
-spelled_one (part u l ks (part w m vs ts)) h = absurd h
-
 -- what a source shows is written as one value without comments
 shown_fresh : (st : Style) (t : List ℕ) (v : Value) (s : Supply) → Showable v → Fresh (sown s (written st t v)) × (bare (parts (sown s (written st t v))) ≡ spelled v)
 shown_fresh st t v s w =
     let e = written_says st t v s w.1 in
-    (record { alone = one_alone (parts (sown s (written st t v))) (spelled v) e (spelled_one v w.0); quiet = written_quiet st t v s }, e)
+    (record { alone = one_alone (parts (sown s (written st t v))) (spelled v) e (one_spelled v w.0); quiet = written_quiet st t v s }, e)
 
 -- so is what can be written
 written_fresh : (st : Style) (t : List ℕ) (v : Value) (s : Supply) → Writable st t v → Fresh (sown s (written st t v)) × (bare (parts (sown s (written st t v))) ≡ spelled v)
 written_fresh st t v s w =
     let e = written_says st t v s w.shaped in
-    (record { alone = one_alone (parts (sown s (written st t v))) (spelled v) e (spelled_one v w.one); quiet = written_quiet st t v s }, e)
+    (record { alone = one_alone (parts (sown s (written st t v))) (spelled v) e (one_spelled v w.one); quiet = written_quiet st t v s }, e)
 
 -- A ROOT WITHOUT A VALUE
 

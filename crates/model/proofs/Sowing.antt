@@ -1,6 +1,7 @@
 -- Every edit takes nodes away and adds those it writes, and nothing else. Assumes nothing.
 use Rattle.std.proofs.Common.{◌≡◌, ℕ, ◌+◌, ◌≤◌, cond, not, ◌&&◌, ◌||◌, eqb, ltb, ◌⊎◌, List, [], ◌∷◌, Some, None, Option, sym, refl, ap, ◌∙◌, subst, inl, inr, arith}
 use Rattle.std.proofs.lemmas.Bool.{cond_both, eqb-true}
+use Rattle.std.proofs.lemmas.Option.{none-some}
 use Rattle.forest.specs.Forest.{end, node, count}
 use Rattle.model.specs.Nodes.{Handle, handle, Own, Nodes, class}
 use Rattle.model.specs.Asks.{Frame, Spot, spot_in, spot_at, tree, numbered_so, then, sort_of, is_property, is_root, bracketed, is_value, is_break, any, value_in}
@@ -9,7 +10,6 @@ use Rattle.model.specs.Edits.{Supply, sown}
 use Rattle.refusal.specs.declared.Refusal.TheVariants.{Gone, NotHere}
 use Rattle.model.specs.State.{State, Outcome, Refused, Given, and_then, present, Plan, Edit, Remove, Replace, SetValue, SetRoot, Clear, SetTrailingCommas, EnsureMultiline, Commas, Never, IfMultiline, cutting, remove_plan, exchanging, replace_plan, value_plan, value_of, root_plan, commas_plan, multiline_plan, spotted, planned}
 use Rattle.model.specs.Changes.{At, Placed}
-use Rattle.model.proofs.Removes.{some_none}
 use Rattle.model.proofs.Edited.{at_count}
 use Rattle.model.proofs.Spots.{Spotted, the_root, a_node, spot_found}
 use Rattle.model.proofs.Tally.{tally, Among, Below, remove_less, drop_less, never_less, unspaced_less, exchange_tally, lines_tally, multiline_tally, root_tally}
@@ -30,7 +30,7 @@ Place k us s ns = ((s.ups ≡ us) × Among k ns) ⊎ ((f : Frame) × (vs : List 
 
 -- a node that is found stands among those siblings
 found_among : (k : ℕ) (us : List Frame) (bs ts : Nodes) (s : Spot) → spot_in k us bs ts ≡ Some s → Place k us s ts
-found_among k us bs end s = λ e. absurd (some_none s (sym e))
+found_among k us bs end s = λ e. absurd (none-some s e)
 found_among k us bs (node p i ks ts) s =
     let f : Frame = record { before = bs; place = p; own = i; after = ts } in
     cond_both (eqb p k) (Some (record { here = f; kids = ks; ups = us })) (cond (ltb 0 (count k ks)) (spot_in k (f ∷ us) end ks) (spot_in k us (node p i ks bs) ts)) (λ y. y ≡ Some s → Place k us s (node p i ks ts))
@@ -57,7 +57,7 @@ with_spot d h F k = go (spot_at h.place d.kids) refl
 
 -- the first value is among the siblings
 pub value_among : (ks : Nodes) (h : Handle) → value_in ks ≡ Some h → Among h.place ks
-value_among end h = λ e. absurd (some_none h (sym e))
+value_among end h = λ e. absurd (none-some h e)
 value_among (node q i us ts) h = cond_both (is_value (class i.sort)) (Some (handle q i)) (value_in ts) (λ y. y ≡ Some h → (q ≡ h.place) ⊎ Among h.place ts)
     (λ z e. (let x : handle q i ≡ h = cc in inl (ap (λ y. y.place) x))) (λ z e. inr (value_among ts h e))
 

@@ -1,6 +1,7 @@
 -- Where a node is found: its data and children, its parent, and that there is no other. Assumes nothing.
 use Rattle.std.proofs.Common.{◌≡◌, ℕ, false, cond, eqb, ltb, ◌⊎◌, List, [], ◌∷◌, Some, None, sym, refl, ap, ◌∙◌, subst, inl, inr, arith}
 use Rattle.std.proofs.lemmas.Bool.{cond_both, eqb-true}
+use Rattle.std.proofs.lemmas.Option.{same_Some, none-some}
 use Rattle.grammar.specs.Pieces.{Box}
 use Rattle.forest.specs.Forest.{end, node, count}
 use Rattle.model.specs.Nodes.{Sort, root, within, single, Own, Nodes, value, class}
@@ -8,10 +9,6 @@ use Rattle.model.specs.Asks.{Frame, Spot, spot_in, spot_at}
 use Rattle.model.specs.Fits.{of, title, element, role, takes, Holds, Whole}
 use Rattle.model.specs.Changes.{At, Placed, IsBracketed, IsContainer, IsItem, IsElement}
 use Rattle.model.proofs.Edited.{at_count, at_once}
-use Rattle.model.proofs.Removes.{some_none}
-
-some_same : {A : Type 0} (a b : A) → Some a ≡ Some b → a ≡ b
-some_same a b e = cc
 
 -- where a node is found, and below which parent; us are the ancestors of the forest
 record Found (k : ℕ) (us : List Frame) (ts : Nodes) (s : Spot) : Type 0 where
@@ -20,11 +17,11 @@ record Found (k : ℕ) (us : List Frame) (ts : Nodes) (s : Spot) : Type 0 where
   under : (s.ups ≡ us) ⊎ ((f : Frame) × (vs : List Frame) × (ks : Nodes) × (s.ups ≡ f ∷ vs) × At f.place f.own ks ts × At k s.here.own s.kids ks)
 
 found : (k : ℕ) (us : List Frame) (bs ts : Nodes) (s : Spot) → spot_in k us bs ts ≡ Some s → Found k us ts s
-found k us bs end s = λ e. absurd (some_none s (sym e))
+found k us bs end s = λ e. absurd (none-some s e)
 found k us bs (node p i ks ts) s =
     let f : Frame = record { before = bs; place = p; own = i; after = ts } in
     cond_both (eqb p k) (Some (record { here = f; kids = ks; ups = us })) (cond (ltb 0 (count k ks)) (spot_in k (f ∷ us) end ks) (spot_in k us (node p i ks bs) ts)) (λ y. y ≡ Some s → Found k us (node p i ks ts) s)
-    (λ z e. subst (Found k us (node p i ks ts)) (some_same (record { here = f; kids = ks; ups = us }) s e)
+    (λ z e. subst (Found k us (node p i ks ts)) (same_Some (record { here = f; kids = ks; ups = us }) s e)
     (record { here_is = eqb-true p k z; stands = inl (eqb-true p k z, refl, refl); under = inl refl }))
     (λ z. cond_both (ltb 0 (count k ks)) (spot_in k (f ∷ us) end ks) (spot_in k us (node p i ks bs) ts) (λ y. y ≡ Some s → Found k us (node p i ks ts) s)
     (λ y e. (let m = found k (f ∷ us) end ks s e in record { here_is = m.here_is; stands = inr (inl m.stands); under = below f m.stands m.under }))
@@ -90,10 +87,10 @@ pub spot_found : (k : ℕ) (ts : Nodes) (s : Spot) → spot_at k ts ≡ Some s �
 spot_found k ts s =
     let f : Frame = record { before = end; place = 0; own = record { number = 1; sort = root }; after = end } in
     cond_both (eqb 0 k) (Some (record { here = f; kids = ts; ups = [] })) (cond (ltb 0 (count k ts)) (spot_in k (f ∷ []) end ts) None) (λ y. y ≡ Some s → Spotted k ts s)
-    (λ z e. subst (Spotted k ts) (some_same (record { here = f; kids = ts; ups = [] }) s e) (the_root (sym (eqb-true 0 k z)) refl refl refl refl))
+    (λ z e. subst (Spotted k ts) (same_Some (record { here = f; kids = ts; ups = [] }) s e) (the_root (sym (eqb-true 0 k z)) refl refl refl refl))
     (λ z. cond_both (ltb 0 (count k ts)) (spot_in k (f ∷ []) end ts) None (λ y. y ≡ Some s → Spotted k ts s)
     (λ y e. (let m = found k (f ∷ []) end ts s e in a_node m.here_is m.stands (up f refl refl m.stands m.under)))
-    (λ y e. absurd (some_none s (sym e))))
+    (λ y e. absurd (none-some s e)))
   where
     up : (f : Frame) → f.place ≡ 0 → f.own.sort ≡ root → At k s.here.own s.kids ts
         → (s.ups ≡ f ∷ []) ⊎ ((g : Frame) × (vs : List Frame) × (ks : Nodes) × (s.ups ≡ g ∷ vs) × At g.place g.own ks ts × At k s.here.own s.kids ks) → Parent k ts s.here.own s.kids s.ups

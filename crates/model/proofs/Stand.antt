@@ -1,11 +1,10 @@
 -- The laws of the definitions, from their lemmas. Assumes nothing.
-use Rattle.std.proofs.Common.{◌≡◌, ℕ, ◌+◌, ◌≤◌, Bool, false, List, refl, ap, inl, inr, true≢false, arith}
+use Rattle.std.proofs.Common.{ℕ, ◌+◌, ◌≤◌, false, List, refl, ap, inl, inr, arith}
 use Rattle.std.proofs.lemmas.Bool.{cases_lt}
-use Rattle.grammar.specs.Pieces.{Box, array, object, property, Pieces, nodes, print as print_pieces}
+use Rattle.grammar.specs.Pieces.{Pieces, nodes, print as print_pieces}
 use Rattle.forest.specs.Forest.{count}
 use Rattle.model.specs.State.{after}
 use Rattle.model.specs.Nodes.{Nodes, loaded}
-use Rattle.model.specs.Fits.{of, title, takes}
 use Rattle.model.specs.Written.{Value, Style, written}
 use Rattle.model.specs.Changes.{IsBracketed, IsContainer, Placed}
 use Rattle.model.specs.Laws.{Laws, Writable}
@@ -14,7 +13,7 @@ use Rattle.model.proofs.Loads.{pieces_numbered, size_numbered, places_numbered, 
 use Rattle.model.proofs.Loaded.{Stands, loads}
 use Rattle.model.proofs.Prints.{prints}
 use Rattle.model.proofs.Edited.{document_under, comments_around, parts_edited}
-use Rattle.model.proofs.Commas.{Commaed}
+use Rattle.model.proofs.Commas.{bracketed_commas}
 use Rattle.model.proofs.Writes.{written_stands}
 use Rattle.model.proofs.Exchanges.{exchange_parts}
 use Rattle.model.proofs.Says.{written_says, written_quiet, exchange_comments}
@@ -28,12 +27,6 @@ writable_stands st t v w = written_stands st t v w.step_blank w.indent_blank w.o
 
 container : (c : ℕ) (ts : Nodes) → IsBracketed c ts → IsContainer c ts
 container c ts b j ks a = (let x = b j ks a in (x.0, x.1))
-
--- an array or object takes commas
-bracketed_commas : (b : Bool) (x : Box) → takes (of x) title ≡ false → Commaed (of x) b
-bracketed_commas b array n e = refl
-bracketed_commas b object n e = refl
-bracketed_commas b property n e = absurd (true≢false n)
 
 placed : (a : Pieces) → Placed (loaded a)
 placed a = record { once = each; rootless = count_outside 0 1 2 a (inl (omega arith)) }

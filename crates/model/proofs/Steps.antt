@@ -2,6 +2,7 @@
 use Rattle.std.proofs.Common.{◌≡◌, ℕ, ◌+◌, Bool, true, false, cond, not, ◌&&◌, ◌||◌, eqb, ltb, List, [], ◌∷◌, length, Some, None, Option, sym, refl, ap, ◌∙◌, subst, inl, inr, true≢false, arith}
 use mathlib.Core.Bool.{false≢true}
 use Rattle.std.proofs.lemmas.Bool.{cond_both, and_parts, not-true}
+use Rattle.std.proofs.lemmas.Option.{none-some}
 use Rattle.grammar.specs.Pieces.{Leaf, null, boolean, number, string, name, token, whitespace, newline, comment, Break, Box, array, object, property, nodes, stored}
 use Rattle.forest.specs.Forest.{end, node, count}
 use Rattle.model.specs.Nodes.{Handle, handle, Sort, root, within, single, Own, Nodes, Gap, gap, value, class}
@@ -14,11 +15,10 @@ use Rattle.refusal.specs.declared.Refusal.TheVariants.{BadMemory, Gone, NotHere,
 use Rattle.model.specs.State.{State, Outcome, Refused, Given, and_then, unless, present, Plan, Edit, Remove, Replace, SetValue, SetRoot, Clear, SetTrailingCommas, EnsureMultiline, Commas, Never, IfMultiline, Work, bad_memory, remove_plan, parent_spot, styled, replace_plan, value_plan, value_of, root_plan, commas_plan, multiline_plan, spotted, planned, supply_of, worn, judged, accepted, after_outcome, after}
 use Rattle.model.specs.Fits.{Owner, top, of, Role, title, element, role, takes, Taken, Fits, Holds, Document}
 use Rattle.model.specs.Changes.{At, Each, Trivial, Placed, IsBracketed, IsContainer, IsItem, IsElement, Showable, Showing}
-use Rattle.model.proofs.Commas.{class_is_value, Commaed}
+use Rattle.model.proofs.Commas.{class_is_value, bracketed_commas}
 use Rattle.model.proofs.Edited.{at_count}
 use Rattle.model.proofs.Kept.{at_inside, remove_document, exchange_kept, root_document, never_document, lines_document, multiline_document}
 use Rattle.model.proofs.Loaded.{Stands}
-use Rattle.model.proofs.Removes.{some_none}
 use Rattle.model.proofs.Writes.{written_stands, all_append}
 use Rattle.model.proofs.Indented.{Framed, Blanks, root_blank, Surrounded, indents_blank, spot_surrounded}
 use Rattle.model.proofs.Spots.{item_of, element_of, container_of, bracketed_of, root_bracketed, root_container, holds_at, parent_box, Parent, at_root, at_node, Spotted, the_root, a_node, spot_found}
@@ -35,6 +35,14 @@ with_spot d h F k = go (spot_at h.place d.kids) refl
     go : (o : Option Spot) → spot_at h.place d.kids ≡ o → Grows (and_then (present Gone (then o (numbered_so h.number))) F)
     go None e = tt
     go (Some s) e = cond_both (eqb s.here.own.number h.number) (Some s) None (λ y. Grows (and_then (present Gone y) F)) (λ z. k s e) (λ z. tt)
+
+-- what is a property is a box
+pub property_box : (s : Sort) → is_property s ≡ true → s ≡ within property
+property_box root e = absurd (false≢true e)
+property_box (within array) e = absurd (false≢true e)
+property_box (within object) e = absurd (false≢true e)
+property_box (within property) e = refl
+property_box (single x) e = absurd (false≢true e)
 
 -- a box that is no property takes no name
 pub no_title : (s : Sort) (b : Box) → s ≡ within b → is_property s ≡ false → takes (of b) title ≡ false
@@ -89,7 +97,7 @@ sort_trivial (single x) t e = leaf_trivial x t e
 pub none_trivial : (ks : Nodes) → Taken top ks → value_in ks ≡ None → Each Trivial ks
 none_trivial end t = λ e. tt
 none_trivial (node q i us ts) t = cond_both (is_value (class i.sort)) (Some (handle q i)) (value_in ts) (λ y. y ≡ None → Each Trivial (node q i us ts))
-    (λ z e. absurd (some_none (handle q i) e)) (λ z e. (sort_trivial i.sort t.0 z, none_trivial ts t.1 e))
+    (λ z e. absurd (none-some (handle q i) (sym e))) (λ z e. (sort_trivial i.sort t.0 z, none_trivial ts t.1 e))
 
 module _ (d : State) (p : Placed d.kids) (doc : Document d.kids) where
   -- the container of a node that is found
@@ -161,11 +169,6 @@ module _ (d : State) (p : Placed d.kids) (doc : Document d.kids) where
       let m = p.rootless in let e : k ≡ 0 = sym h ∙ z in
       let c : count k d.kids ≡ 0 = ap (λ y. count y d.kids) e ∙ m in absurd (omega arith)
 
-  bracketed_commas : (b : Bool) (x : Box) → takes (of x) title ≡ false → Commaed (of x) b
-  bracketed_commas b array n e = refl
-  bracketed_commas b object n e = refl
-  bracketed_commas b property n e = absurd (true≢false n)
-
   commas_grows : (m : Commas) (s : Spot) (k : ℕ) → Spotted k d.kids s → Grows (cond (is_root (sort_of s) || bracketed (sort_of s)) (Given (commas_plan d m s)) (Refused NotHere))
   commas_grows Never s k q = cond_both (is_root (sort_of s) || bracketed (sort_of s)) (Given (commas_plan d Never s)) (Refused NotHere) Grows
       (λ z u. never_document s.here.place d.kids (λ j ks a. (let x = spot_bracketed s k q z j ks a in (x.0, x.1))) doc) (λ z. tt)
@@ -190,18 +193,11 @@ module _ (d : State) (p : Placed d.kids) (doc : Document d.kids) where
 
   -- the first value among siblings
   value_found : (f : Owner) (ks : Nodes) (h : Handle) → takes f Role.member ≡ false → Taken f ks → value_in ks ≡ Some h → (i : Own) × (us : Nodes) × At h.place i us ks × (class i.sort ≡ value) × (role i.sort ≡ element)
-  value_found f end h n t = λ e. absurd (some_none h (sym e))
+  value_found f end h n t = λ e. absurd (none-some h e)
   value_found f (node q i us ts) h n t =
       cond_both (is_value (class i.sort)) (Some (handle q i)) (value_in ts) (λ y. y ≡ Some h → (j : Own) × (vs : Nodes) × At h.place j vs (node q i us ts) × (class j.sort ≡ value) × (role j.sort ≡ element))
       (λ z e. (let c = class_is_value (class i.sort) z in let x : handle q i ≡ h = cc in (i, us, inl (ap (λ y. y.place) x, refl, refl), c, taken_element f i.sort c n t.0)))
       (λ z e. (let m = value_found f ts h n t.1 e in (m.0, m.1, inr (inr m.2), m.3, m.4)))
-
-  property_box : (s : Sort) → is_property s ≡ true → s ≡ within property
-  property_box root e = absurd (false≢true e)
-  property_box (within array) e = absurd (false≢true e)
-  property_box (within object) e = absurd (false≢true e)
-  property_box (within property) e = refl
-  property_box (single x) e = absurd (false≢true e)
 
   value_at : (v : Value) (s o : Spot) (k : ℕ) (h : Handle) → Showable v → Surrounded s → Spotted k d.kids s → value_in s.kids ≡ Some h → spot_at h.place d.kids ≡ Some o → is_property (sort_of s) ≡ true → (u : Supply)
       → Document (exchange s.here.place o.here.place (sown u (written (styled (break_of (newline_kind d.kids)) (uses_trailing_commas (sort_of o) o.kids) (indents s d.kids)) (indents s d.kids).current v)) d.kids)

@@ -1,7 +1,8 @@
 -- Sums over the nodes of a forest: what each edit takes from them and what it adds. Assumes nothing.
-use Rattle.std.proofs.Common.{◌≡◌, ℕ, zero, suc, ◌+◌, ◌≤◌, Bool, true, false, cond, not, ◌&&◌, eqb, ◌⊎◌, List, [], ◌∷◌, drop, Some, None, Option, sym, refl, ap, ◌∙◌, subst, inl, inr, arith}
+use Rattle.std.proofs.Common.{◌≡◌, ℕ, zero, suc, ◌+◌, ◌≤◌, Bool, true, false, cond, not, ◌&&◌, eqb, ◌⊎◌, drop, Some, None, Option, sym, refl, ap, ◌∙◌, subst, inl, inr, drop-drop, add_assoc, suc-add, one-add, arith}
 use mathlib.Core.Bool.{false≢true}
 use Rattle.std.proofs.lemmas.Bool.{cond_both, eqb-true, cond-true, cond-false, ne_eqb, eq-eqb}
+use Rattle.std.proofs.lemmas.Option.{none-some}
 use Rattle.grammar.specs.Layout.{Open, Close, Comma, Colon, Name}
 use Rattle.grammar.specs.Pieces.{Pieces, end as no_pieces, leaf, box, join, nodes, Break}
 use Rattle.forest.specs.Forest.{end, node, count, append}
@@ -12,7 +13,6 @@ use Rattle.model.specs.Nodes.{Own, Nodes, blank, break, remark, Class, gap, mark
 use Rattle.model.specs.Asks.{is_comma, is_break}
 use Rattle.model.specs.Edits.{Supply, skip, sown, onto, local_from, local, under, back_at, back_line, un_comma, past_at, past_comma, line_ends, solid_next, rest_at, drop_line, empty, tight_at, tight, tidy, closed, removal, remove, ends, untrailed, lined, due, dues, commas, trailed, dropped, exchanged, drop_node, exchange, Cut, cut_at, root_cut, break_before, break_behind, root_pieces, root_put, piece_of, begun, loose, shuts, unspaced, Lines, lead, leads, spread_out}
 use Rattle.model.specs.Changes.{At}
-use Rattle.model.proofs.Removes.{some_none}
 use Rattle.model.proofs.Edited.{at_count}
 
 -- the sum of w over the nodes
@@ -25,35 +25,18 @@ abbrev pub Among : ℕ → Nodes → Type 0
 Among k end = ⊥
 Among k (node p i ks ts) = (p ≡ k) ⊎ Among k ts
 
+-- what is at another place than the first is behind it
+pub among_on : (p k : ℕ) (ts : Nodes) → eqb p k ≡ false → (p ≡ k) ⊎ Among k ts → Among k ts
+among_on p k ts e (inl z) = absurd (false≢true (sym e ∙ eq-eqb p k z))
+among_on p k ts e (inr z) = z
+
 -- us are the children of the container at the place c, which is the root's, or a node's alone
 abbrev pub Below : ℕ → Nodes → Nodes → Type 0
 Below c us ts = ((c ≡ 0) × (us ≡ ts)) ⊎ ((c ≡ 0 → ⊥) × (count c ts ≤ 1) × ((j : Own) × At c j us ts))
 
--- what is left of a list after some and then others
-pub drop_drop : (m n : ℕ) (a : List ℕ) → drop m (drop n a) ≡ drop (n + m) a
-drop_drop m zero a = ap (λ y. drop y a) (let e : m ≡ 0 + m = omega arith in e)
-drop_drop m (suc n) [] = none m ∙ sym (none (suc n + m))
-  where
-    none : (l : ℕ) → drop {A = ℕ} l [] ≡ []
-    none zero = refl
-    none (suc l) = refl
-drop_drop m (suc n) (x ∷ a) = drop_drop m n a ∙ ap (λ y. drop y (x ∷ a)) (let e : suc (n + m) ≡ suc n + m = omega arith in e)
-
--- sums in another order
-plus_assoc : (a b c : ℕ) → (a + b) + c ≡ a + (b + c)
-plus_assoc a b c = omega arith
-
--- one and n
-one_more : (n : ℕ) → 1 + n ≡ suc n
-one_more n = omega arith
-
--- one more of a sum
-suc_plus : (m n : ℕ) → suc m + n ≡ suc (m + n)
-suc_plus m n = omega arith
-
 -- what is left after some new nodes and then others
 pub skip_skip : (m n : ℕ) (s : Supply) → skip m (skip n s) ≡ skip (n + m) s
-skip_skip m n s = ap (λ y. record { places = y; number = (s.number + n) + m }) (drop_drop m n s.places) ∙ ap (λ y. record { places = drop (n + m) s.places; number = y }) (plus_assoc s.number n m)
+skip_skip m n s = ap (λ y. record { places = y; number = (s.number + n) + m }) (drop-drop m n s.places) ∙ ap (λ y. record { places = drop (n + m) s.places; number = y }) (add_assoc s.number n m)
 
 -- after no new nodes all is left
 pub skip_none : (s : Supply) → skip 0 s ≡ s
@@ -90,17 +73,17 @@ module _ (w : ℕ → Own → ℕ) where
 
   -- what follows the trailing comma is part of what was there
   less_past : (ts r : Nodes) → past_comma ts ≡ Some r → tally w r ≤ tally w ts
-  less_past end r e = absurd (some_none r (sym e))
+  less_past end r e = absurd (none-some r e)
   less_past (node p i ks ts) r e = go (class i.sort) e (less_past ts r)
     where
       go : (c : Class) → past_at c (past_comma ts) ts ≡ Some r → (past_comma ts ≡ Some r → tally w r ≤ tally w ts) → tally w r ≤ w p i + (tally w ks + tally w ts)
       go (gap g) e h = omega (arith, h e)
-      go (mark Open) e h = absurd (some_none r (sym e))
-      go (mark Close) e h = absurd (some_none r (sym e))
+      go (mark Open) e h = absurd (none-some r e)
+      go (mark Close) e h = absurd (none-some r e)
       go (mark Comma) e h = (let z : ts ≡ r = cc in omega (arith, ap (tally w) z))
-      go (mark Colon) e h = absurd (some_none r (sym e))
-      go (mark Name) e h = absurd (some_none r (sym e))
-      go value e h = absurd (some_none r (sym e))
+      go (mark Colon) e h = absurd (none-some r e)
+      go (mark Name) e h = absurd (none-some r e)
+      go value e h = absurd (none-some r e)
 
   -- the rest of the line goes, behind
   less_line : (ts : Nodes) → tally w (drop_line ts) ≤ tally w ts
@@ -199,8 +182,8 @@ module _ (w : ℕ → Own → ℕ) where
   -- new nodes in two parts
   pub sown_join : (s : Supply) (a b : Pieces) → tally w (sown s (join a b)) ≡ tally w (sown s a) + tally w (sown (skip (nodes a) s) b)
   sown_join s no_pieces b = omega (arith, ap (λ y. tally w (sown y b)) (skip_none s))
-  sown_join s (leaf x r) b = omega (arith, sown_join (skip 1 s) r b, ap (λ y. tally w (sown y b)) (skip_skip (nodes r) 1 s), ap (λ y. tally w (sown (skip y s) b)) (one_more (nodes r)))
-  sown_join s (box k c r) b = omega (arith, sown_join (skip (suc (nodes c)) s) r b, ap (λ y. tally w (sown y b)) (skip_skip (nodes r) (suc (nodes c)) s), ap (λ y. tally w (sown (skip y s) b)) (suc_plus (nodes c) (nodes r)))
+  sown_join s (leaf x r) b = omega (arith, sown_join (skip 1 s) r b, ap (λ y. tally w (sown y b)) (skip_skip (nodes r) 1 s), ap (λ y. tally w (sown (skip y s) b)) (one-add (nodes r)))
+  sown_join s (box k c r) b = omega (arith, sown_join (skip (suc (nodes c)) s) r b, ap (λ y. tally w (sown y b)) (skip_skip (nodes r) (suc (nodes c)) s), ap (λ y. tally w (sown (skip y s) b)) (suc-add (nodes c) (nodes r)))
 
   -- a change below one node changes as much of the whole
   pub edited_tally : (c : ℕ) (F : Nodes → Nodes) (j : Own) (us ts : Nodes) → count c ts ≤ 1 → At c j us ts → tally w (edited c F ts) + tally w us ≡ tally w ts + tally w (F us)
@@ -236,11 +219,7 @@ module _ (w : ℕ → Own → ℕ) where
       go : (b : Bool) → eqb p k ≡ b → (Among k ts → tally w (local_from (exchanged us) k (node p i ks bs) ts) ≡ tally w (local_from dropped k (node p i ks bs) ts) + tally w us)
           → tally w (cond b (onto bs (append us ts)) (local_from (exchanged us) k (node p i ks bs) ts)) ≡ tally w (cond b (onto bs ts) (local_from dropped k (node p i ks bs) ts)) + tally w us
       go true e R = omega (arith, tally_onto bs (append us ts), tally_onto bs ts, tally_append us ts)
-      go false e R = R (rest a)
-        where
-          rest : (p ≡ k) ⊎ Among k ts → Among k ts
-          rest (inl z) = absurd (false≢true (sym e ∙ eq-eqb p k z))
-          rest (inr z) = z
+      go false e R = R (among_on p k ts e a)
 
   -- so they do in the whole tree
   pub exchange_tally : (c k : ℕ) (vs us ts : Nodes) → Below c us ts → Among k us → tally w (exchange c k vs ts) ≡ tally w (drop_node c k ts) + tally w vs
@@ -249,7 +228,7 @@ module _ (w : ℕ → Own → ℕ) where
   -- IFMULTILINE
   commas_split : (s : Supply) (m n : ℕ) → tally w (sown s (commas (m + n))) ≡ tally w (sown s (commas m)) + tally w (sown (skip m s) (commas n))
   commas_split s zero n = omega (arith, ap (λ y. tally w (sown y (commas n))) (skip_none s), ap (λ y. tally w (sown s (commas y))) (let e : 0 + n ≡ n = omega arith in e))
-  commas_split s (suc m) n = omega (arith, commas_split (skip 1 s) m n, ap (λ y. tally w (sown y (commas n))) (skip_skip m 1 s), ap (λ y. tally w (sown (skip y s) (commas n))) (one_more m), ap (λ y. tally w (sown s (commas y))) (suc_plus m n))
+  commas_split s (suc m) n = omega (arith, commas_split (skip 1 s) m n, ap (λ y. tally w (sown y (commas n))) (skip_skip m 1 s), ap (λ y. tally w (sown (skip y s) (commas n))) (one-add m), ap (λ y. tally w (sown s (commas y))) (suc-add m n))
 
   -- the commas that are due count besides the siblings
   trailed_tally : (b : Bool) (s : Supply) (ts : Nodes) → tally w (trailed b s ts) ≡ tally w ts + tally w (sown s (commas (dues b ts)))

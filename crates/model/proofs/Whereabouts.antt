@@ -1,6 +1,7 @@
 -- What stands at a path of a value: its node, the handles below it, and how deep it lies. Assumes nothing.
 use Rattle.std.proofs.Common.{◌≡◌, ℕ, zero, suc, ◌+◌, ◌-◌, ◌<◌, ◌≤◌, true, false, cond, eqb, ltb, ◌⊎◌, List, [], ◌∷◌, ◌++◌, Some, None, Option, sym, refl, ap, ◌∙◌, subst, inl, inr, true≢false, arith}
 use Rattle.std.proofs.lemmas.Bool.{eqb-true, eq-eqb, cond_both, and_parts, ltb-true, ltb-false}
+use Rattle.std.proofs.lemmas.Option.{same_Some, none-some}
 use Rattle.grammar.specs.Layout.{Label, Null, Boolean, Numeral, Text, Array, Object, Member, Layout, stop, note, mark as token, item, Parts, nil, part, raised, levels, meaning}
 use Rattle.grammar.specs.Pieces.{null, boolean, number, string, name, token as sign, whitespace, newline, comment, array, object, property}
 use Rattle.forest.specs.Forest.{end, node, count}
@@ -13,7 +14,6 @@ use Rattle.model.specs.State.{levels_of, around}
 use Rattle.model.specs.Changes.{At}
 use Rattle.model.specs.Account.{change, others, instead, handles, leaving, In}
 use Rattle.model.specs.Given.{often}
-use Rattle.model.proofs.Removes.{some_none}
 use Rattle.model.proofs.Edited.{at_count}
 
 -- HANDLES
@@ -69,13 +69,9 @@ pub record Standing (ts : Nodes) (n : ℕ) (q : List ℕ) (h : Handle) : Type 0 
   pub lower : (j : ℕ) (r : List ℕ) → at (parts ts) n (q ++ j ∷ r) ≡ at (parts kids) j r
   pub leaves : (g : Handle) → In g (leaving (parts ts) n q) → 0 < count g.place (node h.place own kids end)
 
--- what is given twice is the same
-some_same : {A : Type 0} (a b : A) → Some a ≡ Some b → a ≡ b
-some_same a b e = cc
-
 -- what a path answers with stands there
 pub standing : (ts : Nodes) (n : ℕ) (q : List ℕ) (h : Handle) → at (parts ts) n q ≡ Some h → Standing ts n q h
-standing end n q h e = absurd (some_none h (sym e))
+standing end n q h e = absurd (none-some h e)
 standing (node p i ks ts) n q h e = go (λ n q. standing ks n q h) (λ n q. standing ts n q h) (class i.sort) refl n q e
   where
     V : Class → Parts Handle
@@ -111,7 +107,7 @@ standing (node p i ks ts) n q h e = go (λ n q. standing ks n q h) (λ n q. stan
     go : ((n : ℕ) (q : List ℕ) → at (parts ks) n q ≡ Some h → Standing ks n q h) → ((n : ℕ) (q : List ℕ) → at (parts ts) n q ≡ Some h → Standing ts n q h) → (c : Class) → class i.sort ≡ c → (n : ℕ) (q : List ℕ) → at (parts_at (class i.sort) (handle p i) (label_of i.sort (pieces ks)) (parts ks) (parts ts)) n q ≡ Some h → Standing (node p i ks ts) n q h
     go A B (gap g) z n q e = pass (gap g) refl z n q (B n q (sym (ap (λ y. at y n q) (shape (gap g) z)) ∙ e))
     go A B (mark g) z n q e = pass (mark g) refl z n q (B n q (sym (ap (λ y. at y n q) (shape (mark g) z)) ∙ e))
-    go A B value z zero [] e = here z (some_same (handle p i) h (sym (ap (λ y. at y 0 []) (shape value z)) ∙ e))
+    go A B value z zero [] e = here z (same_Some (handle p i) h (sym (ap (λ y. at y 0 []) (shape value z)) ∙ e))
     go A B value z zero (j ∷ q) e = (let s = A j q (sym (ap (λ y. at y 0 (j ∷ q)) (shape value z)) ∙ e) in record {
       own = s.own;
       kids = s.kids;
@@ -129,6 +125,10 @@ standing (node p i ks ts) n q h e = go (λ n q. standing ks n q h) (λ n q. stan
       leaves = λ g m. s.leaves g (subst (λ y. In g (leaving y (suc n) q)) (shape value z) m);
     })
 
+-- so a node stands there
+pub stands_there : (h : Handle) (ts : Nodes) (n : ℕ) (q : List ℕ) → at (parts ts) n q ≡ Some h → 0 < count h.place ts
+stands_there h ts n q e = (let x = standing ts n q h e in at_count h.place x.own x.kids ts x.stands)
+
 -- PATHS
 
 -- handles that test the same are equal
@@ -141,31 +141,31 @@ same_handle i h e =
 
 -- a way leads to its handle
 way_at : (h : Handle) (v : Parts Handle) (w : Way) → way_to h v ≡ Some w → at v w.0 w.1 ≡ Some h
-way_at h nil w = λ e. absurd (some_none w (sym e))
+way_at h nil w = λ e. absurd (none-some w e)
 way_at h (part i l ks ts) w = cond_both (same i h) (Some (0, [])) (or_else (inside (way_to h ks)) (behind (way_to h ts))) (λ y. y ≡ Some w → at (part i l ks ts) w.0 w.1 ≡ Some h)
-    (λ z e. subst (λ y. at (part i l ks ts) y.0 y.1 ≡ Some h) (some_same (0, []) w e) (ap (λ y. Some y) (same_handle i h z)))
+    (λ z e. subst (λ y. at (part i l ks ts) y.0 y.1 ≡ Some h) (same_Some (0, []) w e) (ap (λ y. Some y) (same_handle i h z)))
     (λ z. go (way_at h ks) (way_at h ts) (way_to h ks) refl (way_to h ts) refl)
   where
     go : ((u : Way) → way_to h ks ≡ Some u → at ks u.0 u.1 ≡ Some h) → ((u : Way) → way_to h ts ≡ Some u → at ts u.0 u.1 ≡ Some h) → (x : Option Way) → way_to h ks ≡ x → (y : Option Way) → way_to h ts ≡ y → or_else (inside x) (behind y) ≡ Some w → at (part i l ks ts) w.0 w.1 ≡ Some h
-    go A B (Some u) a y b e = subst (λ y. at (part i l ks ts) y.0 y.1 ≡ Some h) (some_same (0, u.0 ∷ u.1) w e) (A u a)
-    go A B None a (Some u) b e = subst (λ y. at (part i l ks ts) y.0 y.1 ≡ Some h) (some_same (suc u.0, u.1) w e) (B u b)
-    go A B None a None b e = absurd (some_none w (sym e))
+    go A B (Some u) a y b e = subst (λ y. at (part i l ks ts) y.0 y.1 ≡ Some h) (same_Some (0, u.0 ∷ u.1) w e) (A u a)
+    go A B None a (Some u) b e = subst (λ y. at (part i l ks ts) y.0 y.1 ≡ Some h) (same_Some (suc u.0, u.1) w e) (B u b)
+    go A B None a None b e = absurd (none-some w e)
 
 -- a path leads to its handle
 pub path_at : (h : Handle) (v : Parts Handle) (p : List ℕ) → path h v ≡ Some p → at_path v p ≡ Some h
 path_at h v p = go (way_to h v) refl
   where
     on : (n : ℕ) (q : List ℕ) → way_to h v ≡ Some (n, q) → from_root n q ≡ Some p → at v 0 p ≡ Some h
-    on zero q a e = subst (λ y. at v 0 y ≡ Some h) (some_same q p e) (way_at h v (0, q) a)
-    on (suc n) q a e = absurd (some_none p (sym e))
+    on zero q a e = subst (λ y. at v 0 y ≡ Some h) (same_Some q p e) (way_at h v (0, q) a)
+    on (suc n) q a e = absurd (none-some p e)
 
     go : (o : Option Way) → way_to h v ≡ o → path_to o ≡ Some p → at v 0 p ≡ Some h
-    go None a e = absurd (some_none p (sym e))
+    go None a e = absurd (none-some p e)
     go (Some w) a e = on w.0 w.1 a e
 
 -- the first value of siblings is at the first ordinal
 pub value_first : (ts : Nodes) (o : Handle) → value_in ts ≡ Some o → at (parts ts) 0 [] ≡ Some o
-value_first end o = λ e. absurd (some_none o (sym e))
+value_first end o = λ e. absurd (none-some o e)
 value_first (node p i ks ts) o = go (value_first ts o) (class i.sort)
   where
     go : (value_in ts ≡ Some o → at (parts ts) 0 [] ≡ Some o) → (c : Class) → cond (is_value c) (Some (handle p i)) (value_in ts) ≡ Some o → at (parts_at c (handle p i) (label_of i.sort (pieces ks)) (parts ks) (parts ts)) 0 [] ≡ Some o
@@ -289,11 +289,11 @@ Depths ts n q us s = (above (parts ts) n q + around us ≤ around s.ups) × (wit
 
 -- so it is, by place and by path
 pub depths : (ts : Nodes) (n : ℕ) (q : List ℕ) (h : Handle) (us : List Frame) (bs : Nodes) (s : Spot) → at (parts ts) n q ≡ Some h → count h.place ts ≤ 1 → spot_in h.place us bs ts ≡ Some s → Depths ts n q us s
-depths end n q h us bs s e o = λ x. absurd (some_none h (sym e))
+depths end n q h us bs s e o = λ x. absurd (none-some h e)
 depths (node p i ks ts) n q h us bs s e o =
     let f : Frame = record { before = bs; place = p; own = i; after = ts } in
     cond_both (eqb p h.place) (Some (record { here = f; kids = ks; ups = us })) (cond (ltb 0 (count h.place ks)) (spot_in h.place (f ∷ us) end ks) (spot_in h.place us (node p i ks bs) ts)) (λ y. y ≡ Some s → Depths (node p i ks ts) n q us s)
-    (λ z x. subst (Depths (node p i ks ts) n q us) (some_same (record { here = f; kids = ks; ups = us }) s x) (here (eqb-true p h.place z) (class i.sort) n q e))
+    (λ z x. subst (Depths (node p i ks ts) n q us) (same_Some (record { here = f; kids = ks; ups = us }) s x) (here (eqb-true p h.place z) (class i.sort) n q e))
     (λ z. cond_both (ltb 0 (count h.place ks)) (spot_in h.place (f ∷ us) end ks) (spot_in h.place us (node p i ks bs) ts) (λ y. y ≡ Some s → Depths (node p i ks ts) n q us s)
     (λ y x. low (λ j q e c. depths ks j q h (record { before = bs; place = p; own = i; after = ts } ∷ us) end s e c x) z (ltb-true 0 (count h.place ks) y) (class i.sort) n q e)
     (λ y x. on (λ j q e c. depths ts j q h us (node p i ks bs) s e c x) z (ltb-false 0 (count h.place ks) y) (class i.sort) n q e))
@@ -301,29 +301,26 @@ depths (node p i ks ts) n q h us bs s e o =
     V : Class → Parts Handle
     V c = parts_at c (handle p i) (label_of i.sort (pieces ks)) (parts ks) (parts ts)
 
-    there : (vs : Nodes) (n : ℕ) (q : List ℕ) → at (parts vs) n q ≡ Some h → 0 < count h.place vs
-    there vs n q e = (let x = standing vs n q h e in at_count h.place x.own x.kids vs x.stands)
-
     D : Class → ℕ → List ℕ → Spot → Type 0
     D c n q s = (above (V c) n q + around us ≤ around s.ups) × (with_itself (V c) n q + around us ≤ around s.ups + cond (bracketed (sort_of s)) 1 0)
 
     here : p ≡ h.place → (c : Class) (n : ℕ) (q : List ℕ) → at (V c) n q ≡ Some h → D c n q (record { here = record { before = bs; place = p; own = i; after = ts }; kids = ks; ups = us })
-    here z (gap g) n q e = absurd (omega (arith, one_eq p h.place z, there ts n q e))
-    here z (mark g) n q e = absurd (omega (arith, one_eq p h.place z, there ts n q e))
+    here z (gap g) n q e = absurd (omega (arith, one_eq p h.place z, stands_there h ts n q e))
+    here z (mark g) n q e = absurd (omega (arith, one_eq p h.place z, stands_there h ts n q e))
     here z value zero [] e = (omega arith, omega (arith, sort_lift i.sort ks))
-    here z value zero (j ∷ q) e = absurd (omega (arith, one_eq p h.place z, there ks j q e))
-    here z value (suc n) q e = absurd (omega (arith, one_eq p h.place z, there ts n q e))
+    here z value zero (j ∷ q) e = absurd (omega (arith, one_eq p h.place z, stands_there h ks j q e))
+    here z value (suc n) q e = absurd (omega (arith, one_eq p h.place z, stands_there h ts n q e))
 
     low : ((j : ℕ) (q : List ℕ) → at (parts ks) j q ≡ Some h → count h.place ks ≤ 1 → Depths ks j q (record { before = bs; place = p; own = i; after = ts } ∷ us) s) → eqb p h.place ≡ false → 0 < count h.place ks → (c : Class) (n : ℕ) (q : List ℕ) → at (V c) n q ≡ Some h → D c n q s
-    low R z y (gap g) n q e = absurd (omega (arith, there ts n q e))
-    low R z y (mark g) n q e = absurd (omega (arith, there ts n q e))
-    low R z y value zero [] e = absurd (true≢false (sym (eq-eqb p h.place (ap (λ y. y.place) (some_same (handle p i) h e))) ∙ z))
+    low R z y (gap g) n q e = absurd (omega (arith, stands_there h ts n q e))
+    low R z y (mark g) n q e = absurd (omega (arith, stands_there h ts n q e))
+    low R z y value zero [] e = absurd (true≢false (sym (eq-eqb p h.place (ap (λ y. y.place) (same_Some (handle p i) h e))) ∙ z))
     low R z y value zero (j ∷ q) e = (let r = R j q e (omega arith) in let a = r.0 in let b = r.1 in let k = sort_lift i.sort ks in (omega arith, omega arith))
-    low R z y value (suc n) q e = absurd (omega (arith, there ts n q e))
+    low R z y value (suc n) q e = absurd (omega (arith, stands_there h ts n q e))
 
     on : ((j : ℕ) (q : List ℕ) → at (parts ts) j q ≡ Some h → count h.place ts ≤ 1 → Depths ts j q us s) → eqb p h.place ≡ false → count h.place ks ≤ 0 → (c : Class) (n : ℕ) (q : List ℕ) → at (V c) n q ≡ Some h → D c n q s
     on R z y (gap g) n q e = R n q e (omega arith)
     on R z y (mark g) n q e = R n q e (omega arith)
-    on R z y value zero [] e = absurd (true≢false (sym (eq-eqb p h.place (ap (λ y. y.place) (some_same (handle p i) h e))) ∙ z))
-    on R z y value zero (j ∷ q) e = absurd (omega (arith, there ks j q e))
+    on R z y value zero [] e = absurd (true≢false (sym (eq-eqb p h.place (ap (λ y. y.place) (same_Some (handle p i) h e))) ∙ z))
+    on R z y value zero (j ∷ q) e = absurd (omega (arith, stands_there h ks j q e))
     on R z y value (suc n) q e = R n q e (omega arith)

@@ -42,7 +42,8 @@ nil_spelled : (v : Value) → IsNil v → IsNil (spelled v)
 nil_spelled nil h = tt
 nil_spelled (part u l ks ts) h = absurd h
 
-one_spelled : (v : Value) → IsOne v → IsOne (spelled v)
+-- one value escaped is one
+pub one_spelled : (v : Value) → IsOne v → IsOne (spelled v)
 one_spelled nil h = absurd h
 one_spelled (part u l ks ts) h = nil_spelled ts h
 

@@ -2,10 +2,10 @@
 use Rattle.std.proofs.Common.{◌≡◌, ℕ, suc, ◌+◌, ◌<◌, ◌≤◌, true, false, ◌⊎◌, List, [], ◌∷◌, ◌++◌, length, drop, set, Some, sym, refl, ap, ◌∙◌, inl, inr, append_assoc, arith, length-set}
 use Rattle.std.proofs.lemmas.Bool.{cases_Bool}
 use Rattle.std.proofs.lemmas.List.{drop-set}
+use Rattle.std.proofs.lemmas.Option.{none-some}
 use Rattle.model.specs.Nodes.{class}
 use Rattle.model.specs.Asks.{Frame, Spot, sort_of, is_value, tally}
 use Rattle.model.specs.State.{parent_spot}
-use Rattle.model.proofs.Removes.{some_none}
 use Rattle.tree.specs.declared.node.Node.{Node}
 use Rattle.tree.specs.Steps.{spot, spots_up, ancestor_spots}
 use Rattle.paths.specs.Ways.{path_of, measured}
@@ -54,8 +54,8 @@ known n k e = go (spot n).ups refl (cases_Bool (is_value (class (sort_of (spot n
   where
     go : (us : List Frame) → (spot n).ups ≡ us → (is_value (class (sort_of (spot n))) ≡ true) ⊎ (is_value (class (sort_of (spot n))) ≡ false)
         → (path_of n ≡ Some (ordinals (spot n).here (spot n).ups)) × (length (spot n).ups ≡ suc k)
-    go us u (inr v) = absurd (some_none k (sym e ∙ ap measured (no_path n v)))
-    go [] u (inl v) = absurd (some_none k (sym e ∙ ap measured (no_root_path n u)))
+    go us u (inr v) = absurd (none-some k (sym (ap measured (no_path n v)) ∙ e))
+    go [] u (inl v) = absurd (none-some k (sym (ap measured (no_root_path n u)) ∙ e))
     go (g ∷ us) u (inl v) =
         let p = path_is n g us u v in
         let q : Some (length (ordinals (spot n).here (g ∷ us))) ≡ Some k = ap (λ y. Some (length (ordinals (spot n).here y))) (sym u) ∙ (sym (ap measured p) ∙ e) in

@@ -3,11 +3,11 @@ use Rattle.std.proofs.Common.{◌≡◌, ℕ, ◌≤◌, false, true, List, [], 
 use mathlib.Core.HLevel.{⊥_prop}
 use mathlib.Core.Logic.{∥∥₁_elim}
 use mathlib.Core.List.{is_set}
+use Rattle.std.proofs.lemmas.Option.{same_Some, none-some}
 use native.Mathlib.Nat.{ℕ_set}
 use native.Mathlib.Bridge.{le_prop}
 use Rattle.model.specs.Nodes.{class}
 use Rattle.model.specs.Asks.{Frame, spot_at, sort_of, is_value}
-use Rattle.model.proofs.Removes.{some_none}
 use Rattle.model.proofs.Commas.{class_is_value}
 use Rattle.tree.specs.declared.node.Node.{Node}
 use Rattle.tree.specs.Trees.{kids}
@@ -15,7 +15,6 @@ use Rattle.tree.specs.Steps.{spot}
 use Rattle.tree.proofs.Spots.{spot_stands}
 use Rattle.tree.proofs.Seen.{distinct}
 use Rattle.paths.specs.Ways.{path_of}
-use Rattle.paths.proofs.Routes.{some_same}
 use Rattle.paths.proofs.Ordinals.{ordinals, root_pathless, pathless, path_ordinals, ups_bound}
 
 module _ (n : Node) where
@@ -40,7 +39,7 @@ module _ (n : Node) where
   path_is g us u v = go (path_of n) refl
     where
       go : (o : Option (List ℕ)) → path_of n ≡ o → path_of n ≡ Some (ordinals (spot n).here (spot n).ups)
-      go None e = absurd (∥∥₁_elim n.tree.now.ok ⊥_prop (λ w. some_none _ (sym (path_ordinals n.place (kids n.tree.now) (spot n) (distinct n.tree.now) at_place w.document g us u (class_is_value _ v)) ∙ e)))
+      go None e = absurd (∥∥₁_elim n.tree.now.ok ⊥_prop (λ w. none-some _ (sym e ∙ path_ordinals n.place (kids n.tree.now) (spot n) (distinct n.tree.now) at_place w.document g us u (class_is_value _ v))))
       go (Some p) e =
           e ∙ ap Some (∥∥₁_elim n.tree.now.ok (is_set ℕ_set p (ordinals (spot n).here (spot n).ups))
-          (λ w. some_same _ _ (sym e ∙ path_ordinals n.place (kids n.tree.now) (spot n) (distinct n.tree.now) at_place w.document g us u (class_is_value _ v))))
+          (λ w. same_Some _ _ (sym e ∙ path_ordinals n.place (kids n.tree.now) (spot n) (distinct n.tree.now) at_place w.document g us u (class_is_value _ v))))

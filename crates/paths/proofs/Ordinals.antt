@@ -1,6 +1,7 @@
 -- A node's path by its ancestors: the ordinals from the root's value down. Assumes nothing.
 use Rattle.std.proofs.Common.{◌≡◌, ℕ, ◌+◌, ◌≤◌, false, cond, eqb, ltb, ◌⊎◌, List, [], ◌∷◌, ◌++◌, length, Some, None, sym, refl, ap, ◌∙◌, subst, inl, inr, arith, length-append}
 use Rattle.std.proofs.lemmas.Bool.{cond_both}
+use Rattle.std.proofs.lemmas.Option.{same_Some, none-some}
 use Rattle.grammar.specs.Layout.{levels}
 use Rattle.grammar.specs.Pieces.{layout}
 use Rattle.forest.specs.Forest.{end, count, Distinct}
@@ -8,12 +9,11 @@ use Rattle.model.specs.Nodes.{root, Nodes, value, class, pieces, parts}
 use Rattle.model.specs.Asks.{Frame, Spot, tree, spot_in, spot_at, sort_of, spot_handle, is_value, tally, from_root, path_to, path}
 use Rattle.model.specs.State.{levels_of}
 use Rattle.model.specs.Fits.{top, Document}
-use Rattle.model.proofs.Removes.{some_none}
 use Rattle.model.proofs.Stand.{stand}
 use Rattle.model.proofs.Lying.{way_off}
 use Rattle.model.proofs.Lone.{lone, first_only}
 use Rattle.model.proofs.Whereabouts.{meaning_levels}
-use Rattle.paths.proofs.Routes.{some_same, frame, spot, Route, route, route_ups, stem, Wayed, wayed, wayless, around_levels, ups_length}
+use Rattle.paths.proofs.Routes.{frame, spot, Route, route, route_ups, stem, Wayed, wayed, wayless, around_levels, ups_length}
 
 -- the ordinals of a node and its ancestors up to the root's value, which is left out; the outermost first
 abbrev pub ordinals : Frame → List Frame → List ℕ
@@ -39,10 +39,10 @@ top_frame = frame end 0 (record { number = 1; sort = root }) end
 pub rooted : (k : ℕ) (ks : Nodes) (s : Spot) → spot_at k ks ≡ Some s → (spot top_frame ks [] ≡ s) ⊎ Route (top_frame ∷ []) end ks s
 rooted k ks s =
     cond_both (eqb 0 k) (Some (spot top_frame ks [])) (cond (ltb 0 (count k ks)) (spot_in k (top_frame ∷ []) end ks) None) (λ y. y ≡ Some s → (spot top_frame ks [] ≡ s) ⊎ Route (top_frame ∷ []) end ks s)
-    (λ z e. inl (some_same (spot top_frame ks []) s e))
+    (λ z e. inl (same_Some (spot top_frame ks []) s e))
     (λ z. cond_both (ltb 0 (count k ks)) (spot_in k (top_frame ∷ []) end ks) None (λ y. y ≡ Some s → (spot top_frame ks [] ≡ s) ⊎ Route (top_frame ∷ []) end ks s)
     (λ y e. inr (route k (top_frame ∷ []) end ks s e).0)
-    (λ y e. absurd (some_none s (sym e))))
+    (λ y e. absurd (none-some s e)))
 
 module _ (k : ℕ) (ks : Nodes) (s : Spot) (d : Distinct (tree ks)) (e : spot_at k ks ≡ Some s) where
   -- the place stands once among the root's children

@@ -2,6 +2,7 @@
 use Rattle.std.proofs.Common.{◌≡◌, ℕ, suc, ◌+◌, ◌*◌, ◌<◌, ◌≤◌, max, true, false, cond, ◌&&◌, eqb, ltb, List, [], ◌∷◌, ◌++◌, length, Some, None, sym, refl, ap, ◌∙◌, subst, true≢false, append_assoc, arith}
 use mathlib.Core.Bool.{false≢true}
 use Rattle.std.proofs.lemmas.Bool.{cond_both, eqb-true}
+use Rattle.std.proofs.lemmas.Option.{same_Some, none-some}
 use Rattle.grammar.specs.Layout.{raised}
 use Rattle.grammar.specs.Pieces.{Box, array, object, property}
 use Rattle.forest.specs.Forest.{end, node, count}
@@ -11,7 +12,6 @@ use Rattle.model.specs.Asks.{Frame, Spot, spot_in, sort_of, spot_handle, is_valu
 use Rattle.model.specs.State.{around}
 use Rattle.model.specs.Fits.{Owner, top, of, role, takes, Taken, Fits, Holds, Whole}
 use Rattle.model.specs.Accounted.{counted}
-use Rattle.model.proofs.Removes.{some_none}
 use Rattle.model.proofs.Ways.{off, as_value}
 use Rattle.model.proofs.Walks.{holder}
 use Rattle.model.proofs.Lying.{same_refl, way_off, way_past, way_down}
@@ -31,17 +31,13 @@ pub data Route : List Frame → Nodes → Nodes → Spot → Type 0 where
   down : (us : List Frame) (bs : Nodes) (p : ℕ) (i : Own) (ks ts : Nodes) (s : Spot) → Route (frame bs p i ts ∷ us) end ks s → Route us bs (node p i ks ts) s
   on : (us : List Frame) (bs : Nodes) (p : ℕ) (i : Own) (ks ts : Nodes) (s : Spot) → Route us (node p i ks bs) ts s → Route us bs (node p i ks ts) s
 
--- what is there is one
-pub some_same : {A : Type 0} (a b : A) → Some a ≡ Some b → a ≡ b
-some_same a b e = cc
-
 -- what is found is reached, and stands at the place that was asked
 pub route : (k : ℕ) (us : List Frame) (bs ts : Nodes) (s : Spot) → spot_in k us bs ts ≡ Some s → Route us bs ts s × (s.here.place ≡ k)
-route k us bs end s = λ e. absurd (some_none s (sym e))
+route k us bs end s = λ e. absurd (none-some s e)
 route k us bs (node p i ks ts) s =
     let f : Frame = frame bs p i ts in
     cond_both (eqb p k) (Some (spot f ks us)) (cond (ltb 0 (count k ks)) (spot_in k (f ∷ us) end ks) (spot_in k us (node p i ks bs) ts)) (λ y. y ≡ Some s → Route us bs (node p i ks ts) s × (s.here.place ≡ k))
-    (λ z e. subst (λ y. Route us bs (node p i ks ts) y × (y.here.place ≡ k)) (some_same (spot f ks us) s e) (stop us bs p i ks ts, eqb-true p k z))
+    (λ z e. subst (λ y. Route us bs (node p i ks ts) y × (y.here.place ≡ k)) (same_Some (spot f ks us) s e) (stop us bs p i ks ts, eqb-true p k z))
     (λ z. cond_both (ltb 0 (count k ks)) (spot_in k (f ∷ us) end ks) (spot_in k us (node p i ks bs) ts) (λ y. y ≡ Some s → Route us bs (node p i ks ts) s × (s.here.place ≡ k))
     (λ y e. (let m = route k (f ∷ us) end ks s e in (down us bs p i ks ts s m.0, m.1)))
     (λ y e. (let m = route k us (node p i ks bs) ts s e in (on us bs p i ks ts s m.0, m.1))))

@@ -34,6 +34,7 @@ pub fn write_path(node: Node<'_>, steps: usize, list: &mut [usize])
     requires room { steps ≤ length list.old }
     ensures { list.new ≡ or_given (path_of node.entry) [] ++ drop steps list.old }
 {
+    // from the last ordinal back, since the walk goes up
     let mut at = node;
     for (left, parent) in (0..steps).rev().zip(node.ancestors()) {
         list[left] = ordinal(at);

@@ -1,5 +1,5 @@
--- What is printed from a step on, and how much that is at most.
-use Rattle.std.proofs.Common.{◌≡◌, ℕ, ◌+◌, ◌*◌, ◌≤◌, Bool, true, false, cond, List, [], ◌∷◌, ◌++◌, length, drop, vec_items, Option, sym, refl, ap, ◌∙◌, arith, length-append, length-drop, length-take}
+-- What is printed below a node, and how much that is at most.
+use Rattle.std.proofs.Common.{◌≡◌, ℕ, ◌+◌, ◌*◌, ◌≤◌, Bool, true, false, cond, List, [], ◌∷◌, ◌++◌, length, drop, vec_items, Some, None, Option, sym, refl, ap, ◌∙◌, arith, length-append, length-drop, length-take}
 use Rattle.std.proofs.lemmas.Bool.{cond_both}
 use Rattle.forest.specs.Forest.{Forest, end, node, size, map}
 use Rattle.table.specs.declared.kind.Kind.{Kind}
@@ -18,9 +18,9 @@ use Rattle.tree.specs.Well.{whole}
 use Rattle.tree.specs.Trees.{kids}
 use Rattle.tree.specs.declared.walks.Siblings.{Siblings}
 use Rattle.tree.specs.Steps.{is_box, spot, ahead, rest, child_spots}
-use Rattle.tree.specs.Walks.{siblings_left}
 use Rattle.tree.proofs.Spots.{fill}
 use Rattle.tree.proofs.Seen.{rooted, plug_is, store_few}
+use Rattle.tree.specs.Walks.{siblings_left, nodes_left}
 use Rattle.tree.proofs.Listed.{rest_is, turn_on}
 
 -- a node prints its own bytes, what is inside it, and then come its siblings
@@ -98,6 +98,18 @@ spot_few n =
 pub printed_few : (n : Node) → length (print (spot n).kids) ≤ 68719476736
 printed_few n = omega (arith, printed_weight (spot n).kids, spot_few n)
 
+-- nor is that of any siblings
+pub siblings_few : (w : Siblings) → length (print (nodes_left w)) ≤ 68719476736
+siblings_few w = go w.at
+  where
+    go : (o : Option Node) → length (print (rest o)) ≤ 68719476736
+    go None = omega arith
+    go (Some n) = omega (arith, printed_weight (rest (Some n)), spot_few n)
+
+-- the children of a node are what is below it
+pub below_is : (w : Siblings) (n : Node) → siblings_left w ≡ child_spots (spot n) → nodes_left w ≡ (spot n).kids
+below_is w n e = rest_is w.at ((spot n).here ∷ (spot n).ups) end (spot n).kids e
+
 -- A turn of a loop over siblings: the node that came, with what is left behind it.
 module _ (a b : Option Node) (n : Node) (t : ahead a ≡ spot n ∷ ahead b) where
   -- it prints its own bytes, what is below it where it is a container, and then come its siblings
@@ -130,10 +142,3 @@ module _ (a b : Option Node) (n : Node) (t : ahead a ≡ spot n ∷ ahead b) whe
   -- fewer nodes are below it, and left
   pub fewer : size (rest a) ≡ 1 + (size (spot n).kids + size (rest b))
   fewer = ap (λ y. size y) (turn_on a b n t)
-
--- a loop over a node's children begins with all of them
-pub begins : (w v : Siblings) (s : Spot) → w ≡ v → siblings_left v ≡ child_spots s → rest w.at ≡ s.kids
-begins w v s e l = rest_is w.at (s.here ∷ s.ups) end s.kids (ap siblings_left e ∙ l)
-
--- what a loop that adds up lengths takes
-pub ruleset lengths = (begins, long_own, long_box, long_leaf, fewer, printed_few)

@@ -7,8 +7,8 @@ ghost use Rattle.document.specs.Documents.{state_of};
 ghost use Rattle.printing.specs.Buffers.{Fills};
 
 use crate::buffers::put;
-use crate::sizes::size_below;
-use crate::writes::write_below;
+use crate::sizes::size_from;
+use crate::writes::write_from;
 use document::Document;
 use refusal::Refusal;
 use table::Handle;
@@ -18,11 +18,11 @@ pub fn print(document: &Document, out: &mut [u8]) -> Result<usize, Refusal>
     ensures { Fills (print_answer (state_of document.now) (length out.old)) out.old out.new result }
 {
     let root = document.loaded()?.root();
-    let size = size_below(root);
+    let size = size_from(root.children());
     if out.len() < size {
         return Err(Refusal::Short(size));
     }
-    Ok(write_below(root, out, 0))
+    Ok(write_from(root.children(), out, 0))
 }
 
 /// Writes the bytes of a Number, String, Whitespace or Comment at the start of the buffer, and says how many.

@@ -2,20 +2,19 @@
 
 ghost use Rattle.std.specs.Prelude.{◌≡◌, length};
 ghost use Rattle.model.specs.Nodes.{print as printed};
-ghost use Rattle.tree.specs.Steps.{spot};
+ghost use Rattle.tree.specs.Walks.{nodes_left};
 
-use tree::Node;
+use tree::Siblings;
 
-/// How many bytes are printed below the node.
-#[tactic(auto, using(crate::proofs::Printed::lengths))]
-pub fn size_below(node: Node<'_>) -> usize
-    ensures { result ≡ length (printed (spot node.entry).kids) }
+/// How many bytes the siblings print, with all below them.
+pub fn size_from(siblings: Siblings<'_>) -> usize
+    ensures { result ≡ length (printed (nodes_left siblings.entry)) }
 {
     let mut size = 0;
-    for child in node.children() {
-        size += child.spelling().len();
-        if child.is_box() {
-            size += size_below(child);
+    for node in siblings {
+        size += node.spelling().len();
+        if node.is_box() {
+            size += size_from(node.children());
         }
     }
     size

@@ -32,6 +32,7 @@ pub enum Refusal {
 }
 
 impl Refusal {
+    // Each of `number`, `name` and `value` is the one place where it is stated.
     /// The refusal's number, from 1 to 10.
     pub fn number(&self) -> u8
         ensures { result ≡ number_of self.now }

@@ -31,7 +31,7 @@ pub enum Answer {
     Flag(bool),
 }
 
-/// What is recorded of a call that was answered so; of one that was refused, the refusal.
+/// What is recorded of a call that was answered so; of one that was refused, the refusal. (`map_or_else` would say the refusal's part again at each call.)
 pub fn noted<T, F: FnOnce(T) -> Answer>(asked: Result<T, Refusal>, answer: F) -> Answer
     requires { ForOk asked (F.pre answer) }
     ensures { MatchResult asked (λ told. F.post answer told result) (λ refusal. result ≡ Answer.Refused refusal) }

@@ -30,6 +30,7 @@ impl fmt::Display for Spot {
 struct Cursor {
     line: usize,
     column: usize,
+    /// a state of the count, with no value beside it
     returned: bool,
 }
 

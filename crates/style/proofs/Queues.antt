@@ -2,7 +2,7 @@
 use Rattle.std.proofs.Common.{◌≡◌, ℕ, ◌+◌, ◌≤◌, List, [], ◌∷◌, ◌++◌, length, Some, None, Option, sym, refl, ap, ◌∙◌, subst, append_assoc, append-nil, arith}
 use Rattle.forest.specs.Forest.{end, node, append, size}
 use Rattle.model.specs.Nodes.{Sort, Nodes}
-use Rattle.model.specs.Asks.{layers, first_of, width}
+use Rattle.model.specs.Asks.{layers, first_of}
 use Rattle.tree.specs.Places.{spot_of}
 use Rattle.style.specs.Standing.{standing, Each}
 use Rattle.style.proofs.Layers.{seek, seek_start, seek_down, seek_hit, seek_miss}
@@ -10,10 +10,6 @@ use Rattle.style.proofs.Layers.{seek, seek_start, seek_down, seek_hit, seek_miss
 pub size_append : (a b : Nodes) → size (append a b) ≡ size a + size b
 size_append end b = omega arith
 size_append (node p i ks ts) b = omega (arith, size_append ts b)
-
-pub width_size : (a : Nodes) → width a ≤ size a
-width_size end = omega arith
-width_size (node p i ks ts) = omega (arith, width_size ts)
 
 module _ (ks : Nodes) where
   pub standing-++ : (a b : List ℕ) → standing ks (a ++ b) ≡ append (standing ks a) (standing ks b)

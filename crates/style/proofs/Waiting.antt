@@ -8,7 +8,8 @@ use Rattle.worklist.specs.declared.list.WorkList.{WorkList}
 use Rattle.worklist.specs.Listed.{listed, taken, room, Pushed, Shifted}
 use Rattle.worklist.proofs.Room.{room_is}
 use Rattle.style.specs.Standing.{standing, Each, heads, Filled}
-use Rattle.style.proofs.Queues.{size_append, width_size, standing-++, each-++, length_standing, Seeks, seeks_hit, seeks_miss}
+use Rattle.tree.proofs.Rooms.{width_size}
+use Rattle.style.proofs.Queues.{size_append, standing-++, each-++, length_standing, Seeks, seeks_hit, seeks_miss}
 
 -- The places of the queue stand, and there is room for what is below them.
 pub record Waiting (ks : Nodes) (w : WorkList ℕ) : Type 0 where

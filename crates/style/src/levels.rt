@@ -24,6 +24,7 @@ pub(crate) fn first_by_level<T: Copy, F: Fn(Node<'_>) -> Option<T>>(
     let tree = node.tree();
     let mut waiting = WorkList::new(queue);
     waiting.push(node.place());
+    // No `for`: the queue grows while it is emptied.
     while let Some(place) = waiting.pop_front() {
         let asked = tree.node(place);
         if let Some(answer) = ask(asked) {

@@ -8,8 +8,8 @@ use Rattle.table.specs.Nodes.{forest_at}
 use Rattle.table.specs.Writes.{link_after, link_first, unlinked}
 use Rattle.table.specs.Sound.{Sound, Good, Loose, Released}
 use Rattle.table.proofs.ReadBack.{sound_read}
-use Rattle.table.proofs.Standing.{all_in}
-use Rattle.table.proofs.After.{after_sound, top_within, link_length, not_top}
+use Rattle.table.proofs.Added.{top_within}
+use Rattle.table.proofs.After.{after_sound, is_linked}
 use Rattle.table.proofs.First.{first_sound, is_headed}
 use Rattle.table.proofs.Removes.{is_cut, loose_read, loose_size, is_loose, remove_sound}
 
@@ -30,7 +30,7 @@ module _ (xs : List Node) (fs : List ℕ) (n s room : ℕ) (all : List ℕ) (top
   S = subst (λ y. Sound xs y (forest_at xs 0)) top g.sound
 
   pub top_in : n < length xs
-  top_in = top_within xs fs n s (forest_at xs 0) S c
+  top_in = top_within xs fs n (forest_at xs 0) S
 
   pub first_good : (i : Own) → (i.number ≡ 0 → ⊥) → (ys : List Node) → ys ≡ link_first xs s n i
       → Good ys fs room × (forest_at ys 0 ≡ ins_first s n i (forest_at xs 0))
@@ -44,8 +44,8 @@ module _ (xs : List Node) (fs : List ℕ) (n s room : ℕ) (all : List ℕ) (top
         → Good ys fs room × (forest_at ys 0 ≡ ins_after s n i (forest_at xs 0))
     after_good i nz ys e =
         subst (λ y. Good y fs room × (forest_at y 0 ≡ ins_after s n i (forest_at xs 0))) (sym e)
-        (sound_good (link_after xs s n i) fs (ins_after s n i (forest_at xs 0)) room (after_sound xs fs n s (forest_at xs 0) S c i nz r)
-        (omega (arith, g.roomy, link_length xs s n i (all_in xs (fs ++ n ∷ []) (forest_at xs 0) S s c) top_in (λ e. not_top xs fs n s (forest_at xs 0) S c s c (sym e)))))
+        (sound_good (link_after xs s n i) fs (ins_after s n i (forest_at xs 0)) room (after_sound xs fs n s (forest_at xs 0) S c r i nz)
+        (omega (arith, g.roomy, (is_linked xs fs n s (forest_at xs 0) S c r i).long)))
 
 -- without the node c, which is cut off and then given back
 module _ (xs : List Node) (fs : List ℕ) (room c : ℕ) (g : Good xs fs room) (o : 0 < count c (forest_at xs 0)) (r : c ≡ 0 → ⊥) (ys : List Node) (e : ys ≡ unlinked xs c) where

@@ -1,6 +1,7 @@
 pub mod Writes
 pub mod Standing
 pub mod Sides
+pub mod Added
 pub mod After
 pub mod First
 pub mod Roots

@@ -48,6 +48,10 @@ module _ (xs : List Node) (u q x : ℕ) where
   pub right_long : length (cut_right xs u q x) ≡ length xs
   right_long = right_case (λ z. length z ≡ length xs) (λ _. simp length-set) (λ _. simp length-set)
 
+  pub right_other : (k : ℕ) → (x ≡ none → k ≡ u → ⊥) → ((x ≡ none → ⊥) → k ≡ x → ⊥) → at (cut_right xs u q x) k ≡ at xs k
+  right_other k a b =
+      right_case (λ z. at z k ≡ at xs k) (λ e. at_other xs u k (with_last (at xs u) q) (a e)) (λ e. at_other xs x k (with_prev (at xs x) q) (b e))
+
   pub right_prev : (x ≡ none → ⊥) → x < length xs → prev_of (cut_right xs u q x) x ≡ q
   right_prev d l = right_case (λ z. prev_of z x ≡ q) (λ e. absurd (d e)) (λ _. ap (λ y. y.prev.0) (at_same xs x (with_prev (at xs x) q) l))
 

@@ -7,7 +7,7 @@ ghost use Rattle.table.specs.Tables.{tree, free, holds_in, records as records_of
 use crate::node::{Handle, Node, Own, Place};
 use crate::table::Table;
 
-// A place is a number that outlasts an edit, so each question asks for itself that its node is there.
+// A place is a number that outlasts an edit, so each question asks for itself that its node is there; crate tree's `Node` carries that fact for all callers above.
 impl Table {
     /// How many nodes there are.
     pub fn living(&self) -> usize

@@ -18,6 +18,7 @@ fn take(spare: &mut Vec<Place>) -> Place
     spare.pop().unwrap()
 }
 
+// `insert_after` and `insert_first` differ in the definition that they meet and in what they ask: one generic function would take both as parameters and be no plainer.
 impl Table {
     /// Puts a new node right after the node `sibling`, which is not the root, and says at which place.
     pub fn insert_after(&mut self, sibling: Place, own: Own) -> Place

@@ -13,6 +13,7 @@ pub enum Kind {
     String,
     /// The string that names a property.
     Name,
+    /// A token is its character: with an enum of six names a record would have 28 bytes, and `record_size` promises 32.
     Token(char),
     Whitespace,
     Newline(NewlineKind),

@@ -10,6 +10,7 @@ pub type Place = u16;
 /// A node's own data: its number, its kind, and where its bytes stand in the text store.
 #[derive(Clone, Copy)]
 pub struct Own {
+    /// 0 in the record of a free place, and no `Option` around it, since a record is to have 32 bytes.
     pub number: u32,
     pub kind: Kind,
     pub start: u32,

@@ -6,10 +6,12 @@ use Rattle.grammar.specs.Layout.{Line, Block}
 use Rattle.grammar.specs.Grammar.{Frame, brackets, braces, closer}
 use Rattle.grammar.specs.Pieces.{Token, comma, colon, Leaf, null, boolean, number, string, name, token, whitespace, newline, line_feed, comment, Box, property, Pieces, end, leaf, box, join, own, print, nodes}
 use Rattle.grammar.specs.Reader.{either, or_p, byte_p, cat_p, word_p, run_p, chars_p, number_p, string_p, block_p, nothing_p, then_p, ahead, after_p, joins, loop_p, only_leaf, token_p, space_p, returned, return_p, newline_p, line_end_p, comment_of, comment_p, plain_p, piece_p, unit_p, trivia_p, string_leaf_p, number_leaf_p, null_p, true_p, false_p, scalar_p, open_token, close_token, box_of, end_p, name_p, member_p, item_p, turn_p, items_p, container_p, nested_p, value_p, ValueFirst, text_p}
+use Rattle.grammar.proofs.Laid.{print_join}
+use Rattle.grammar.proofs.Trivias.{feed_p}
 use Rattle.lexemes.proofs.Lexed.{Bytes, bytes_string, bytes_number}
 use Rattle.lexemes.proofs.Laws.{Law1}
 use Rattle.text.specs.Reports.{labelled}
-use Rattle.text.proofs.Spells.{print_join, space_bytes}
+use Rattle.text.proofs.Spells.{space_bytes}
 
 -- what holds of every answer of a parser
 abbrev pub Sure1 : {A : Type 0} → (A → Type 0) → Res A → Type 0
@@ -195,7 +197,7 @@ firm_token : (m : Token) → Sure Firm (token_p m)
 firm_token m = firm_fixed (token m) (one_p (only _)) (omega arith)
 
 fine_return : Sure Fine return_p
-fine_return = sure_map (λ (x : ℕ × (ℕ ⊎ Unit {0})). Unit {0}) Fine returned (seq_p (one_p (only 13)) (alt_p (only 10) (one_p (only 10)) eps_p)) go (sure_any (seq_p (one_p (only 13)) (alt_p (only 10) (one_p (only 10)) eps_p)))
+fine_return = sure_map (λ (x : ℕ × (ℕ ⊎ Unit {0})). Unit {0}) Fine returned (seq_p (one_p (only 13)) feed_p) go (sure_any (seq_p (one_p (only 13)) feed_p))
   where
     go : (x : ℕ × (ℕ ⊎ Unit {0})) → Unit {0} → Fine (returned x)
     go (r, inl l) m = omega arith

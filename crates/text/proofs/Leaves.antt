@@ -12,7 +12,7 @@ use Rattle.text.specs.declared.sink.LeafKind.{LeafKind}
 use Rattle.text.specs.declared.sink.LeafKind.TheVariants.{Token}
 use Rattle.text.specs.declared.sink.TokenKind.{TokenKind}
 use Rattle.text.specs.Events.{Event, token_for}
-use Rattle.text.specs.Reports.{Rest, Stops, Makes, Leafs, Leads, labelled}
+use Rattle.text.specs.Reports.{Rest, Stops, Makes, OneLeaf, Leads, labelled}
 use Rattle.text.proofs.Telling as telling
 use Rattle.text.proofs.Telling.{stops_then}
 
@@ -45,7 +45,7 @@ module _ {S : Type 0} (after : S → List Event → S → Type 0) (idle : (a : S
         (telling.makes_then after idle joined (trivia_p false) t.now b (then_p (token_p colon) (then_p (trivia_p false) v)) u c y (Err f) c (stops_then (token_p colon) (then_p (trivia_p false) v) u.now f z))
 
 -- a token that was read
-pub token_found : (k : TokenKind) (s t : List ℕ) → Passes (byte_p (only (token_byte (token_for k)))) s t → Leafs (token_p (token_for k)) s (Token k) t
+pub token_found : (k : TokenKind) (s t : List ℕ) → Passes (byte_p (only (token_byte (token_for k)))) s t → OneLeaf (token_p (token_for k)) s (Token k) t
 token_found k s t x =
     let b = byte_split (only (token_byte (token_for k))) s t x in
     (b.0 ∷ [], b.1, ap (map_r (λ _. only_leaf (token (token_for k)))) (one_is (only (token_byte (token_for k))) s t x))
@@ -61,10 +61,10 @@ abbrev after_string : Parser Pieces
 after_string = or_p (only 110) null_p after_null
 
 module _ (s : List ℕ) (k : LeafKind) (t : List ℕ) where
-  pub scalar_string : true ≡ starts (only 34) s → Leafs string_leaf_p s k t → Leafs scalar_p s k t
+  pub scalar_string : true ≡ starts (only 34) s → OneLeaf string_leaf_p s k t → OneLeaf scalar_p s k t
   scalar_string e x = (x.0, x.1, or_left (only 34) string_leaf_p after_string s (sym e) ∙ x.2)
 
-  pub scalar_number : false ≡ starts (only 34) s → false ≡ starts (only 110) s → false ≡ starts (only 116) s → false ≡ starts (only 102) s → Leafs number_leaf_p s k t → Leafs scalar_p s k t
+  pub scalar_number : false ≡ starts (only 34) s → false ≡ starts (only 110) s → false ≡ starts (only 116) s → false ≡ starts (only 102) s → OneLeaf number_leaf_p s k t → OneLeaf scalar_p s k t
   scalar_number p q u e x = (
     x.0,
     x.1,

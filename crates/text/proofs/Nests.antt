@@ -6,16 +6,13 @@ use Rattle.grammar.specs.Classes.{only}
 use Rattle.grammar.specs.Grammar.{Frame, brackets, braces, closer}
 use Rattle.grammar.specs.Pieces.{Token, Box, property, Pieces, end, box, token_byte}
 use Rattle.grammar.specs.Reader.{or_p, then_p, after_p, nothing_p, token_p, trivia_p, open_token, close_token, box_of, end_p, member_p, item_p, turn_p, items_p, container_p, nested_p, value_p, ValueFirst, text_p}
+use Rattle.grammar.proofs.Sentences.{close_byte}
 use Rattle.text.specs.declared.fault.Fault.{Fault}
 use Rattle.text.specs.declared.fault.Fault.TheVariants.{Deep}
 use Rattle.text.specs.Events.{Event, Enter, Leave, events}
 use Rattle.text.specs.Reports.{Rest, Step, Stops, Makes, Turns, Leads, labelled}
 use Rattle.text.proofs.Telling as telling
 use Rattle.text.proofs.Telling.{stops_map, stops_then, stops_after}
-
-closer_is : (f : Frame) → token_byte (close_token f) ≡ closer f
-closer_is brackets = refl
-closer_is braces = refl
 
 pub nested_deep : (s : List ℕ) (n : ℕ) → n ≡ 0 → Stops (nested_p n) s Deep
 nested_deep s zero z = (s, refl)
@@ -82,7 +79,7 @@ module _ {S : Type 0} (after : S → List Event → S → Type 0) (idle : (a : S
     rest_p = after_p (item_p f v) (after_p (trivia_p false) (end_p f))
 
     at_close : (w : Bool) → starts (only (token_byte k)) t.now ≡ w → starts (only (closer f)) t.now ≡ w
-    at_close w e = ap (λ z. starts (only z) t.now) (sym (ap token_byte kis ∙ closer_is f)) ∙ e
+    at_close w e = ap (λ z. starts (only z) t.now) (sym (ap token_byte kis ∙ close_byte f)) ∙ e
 
     module _ (e : true ≡ starts (only (token_byte k)) t.now) where
       closing : (r : Step) (c : S) → Turns after close_p t.now b r c → Turns after (turn_p f v) s a r c

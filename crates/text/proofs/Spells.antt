@@ -1,17 +1,14 @@
 -- The reader takes the printing of its pieces off the text. Assumes nothing.
-use Rattle.std.proofs.Common.{◌≡◌, ℕ, zero, suc, ◌+◌, ◌≤◌, Bool, true, false, ◌⊎◌, List, [], ◌∷◌, ◌++◌, length, sym, refl, ap, ◌∙◌, inl, inr, append_assoc, append-nil, arith}
+use Rattle.std.proofs.Common.{◌≡◌, ℕ, zero, suc, ◌+◌, ◌≤◌, Bool, true, false, ◌⊎◌, List, [], ◌∷◌, ◌++◌, length, refl, ap, ◌∙◌, inl, inr, append-nil, arith}
 use Rattle.grammar.specs.Parse.{Parser, Class, Opening, one_p, eps_p, seq_p, alt_p, map_p, iter_p}
 use Rattle.grammar.specs.Classes.{only, Blank, LineEnd, Gap, InLine}
 use Rattle.grammar.specs.Grammar.{Frame, brackets, braces, closer}
-use Rattle.grammar.specs.Pieces.{Token, comma, colon, Leaf, null, boolean, number, string, name, token, whitespace, newline, line_feed, Box, property, Pieces, end, leaf, box, join, token_byte, own, print}
+use Rattle.grammar.specs.Pieces.{Token, comma, colon, Leaf, null, boolean, number, string, name, token, whitespace, newline, line_feed, Box, property, Pieces, end, box, join, token_byte, own, print}
 use Rattle.grammar.specs.Reader.{either, or_p, byte_p, cat_p, word_p, run_p, chars_p, number_p, string_p, block_p, nothing_p, then_p, ahead, after_p, joins, loop_p, only_leaf, token_p, space_p, returned, return_p, newline_p, line_end_p, comment_of, comment_p, plain_p, piece_p, unit_p, trivia_p, string_leaf_p, number_leaf_p, literal_p, null_p, true_p, false_p, scalar_p, open_token, close_token, box_of, end_p, name_p, member_p, item_p, turn_p, items_p, container_p, value_from, nested_p, value_p, ValueFirst, text_p}
+use Rattle.grammar.proofs.Laid.{print_join}
+use Rattle.grammar.proofs.Trivias.{feed_p}
 use Rattle.lexemes.proofs.Laws.{Law, law_one, law_byte, law_eps, law_run, law_map, law_less, law_seq, sum2, law_alt, concat, law_iter}
 use Rattle.lexemes.proofs.Lexed.{Bytes, bytes_byte, bytes_cat, bytes_chars, bytes_block, bytes_string, bytes_number}
-
-pub print_join : (x y : Pieces) → print (join x y) ≡ print x ++ print y
-print_join end y = refl
-print_join (leaf x r) y = ap (λ z. own x ++ z) (print_join r y) ∙ sym (append_assoc (own x) (print r) (print y))
-print_join (box k c r) y = ap (λ z. print c ++ z) (print_join r y) ∙ sym (append_assoc (print c) (print r) (print y))
 
 -- pieces of l bytes at least
 abbrev pub Says : ℕ → Parser Pieces → Type 0
@@ -106,9 +103,9 @@ abbrev feed : ℕ ⊎ Unit {0} → List ℕ
 feed = sum2 (λ _. 10 ∷ []) (λ _. [])
 
 says_return : Says 1 return_p
-says_return = law_map (λ (x : ℕ × (ℕ ⊎ Unit {0})). (13 ∷ []) ++ feed x.1) (λ (x : ℕ × (ℕ ⊎ Unit {0})). 1 + sum2 {A = ℕ} {B = Unit {0}} (λ _. 1) (λ _. 0) x.1) print (λ _. 1) returned (seq_p (one_p (only 13)) (alt_p (only 10) (one_p (only 10)) eps_p))
+says_return = law_map (λ (x : ℕ × (ℕ ⊎ Unit {0})). (13 ∷ []) ++ feed x.1) (λ (x : ℕ × (ℕ ⊎ Unit {0})). 1 + sum2 {A = ℕ} {B = Unit {0}} (λ _. 1) (λ _. 0) x.1) print (λ _. 1) returned (seq_p (one_p (only 13)) feed_p)
     same (λ x. omega arith)
-    (law_seq (λ _. 13 ∷ []) (λ _. 1) feed (sum2 (λ _. 1) (λ _. 0)) (one_p (only 13)) (alt_p (only 10) (one_p (only 10)) eps_p) (law_byte 13)
+    (law_seq (λ _. 13 ∷ []) (λ _. 1) feed (sum2 (λ _. 1) (λ _. 0)) (one_p (only 13)) feed_p (law_byte 13)
     (law_alt (λ _. 10 ∷ []) (λ _. 1) (λ _. []) (λ _. 0) (only 10) (one_p (only 10)) eps_p (law_byte 10) law_eps))
   where
     same : (x : ℕ × (ℕ ⊎ Unit {0})) → print (returned x) ≡ (13 ∷ []) ++ feed x.1

@@ -5,14 +5,15 @@ use Rattle.grammar.specs.Parse.{ok, bad, deep, Res, res, map_r, Parser, Class, s
 use Rattle.grammar.specs.Pieces.{Pieces, end, leaf, box, join, print}
 use Rattle.grammar.specs.Reader.{or_p, then_p, ahead, after_p, nothing_p, joins, loop_p, only_leaf}
 use Rattle.lexemes.specs.Scan.{Left, Passes}
-use Rattle.lexemes.proofs.Laws.{iter_turn, law_moves}
+use Rattle.grammar.proofs.Laws.{iter_turn}
+use Rattle.lexemes.proofs.Laws.{turn_less, law_moves}
 use Rattle.lexemes.proofs.Ties.{left_all, left_on, or_left, or_right}
 use Rattle.lexemes.proofs.Lexed.{Bytes, bytes_part}
 use Rattle.text.specs.declared.fault.Fault.{Fault}
 use Rattle.text.specs.declared.fault.Fault.TheVariants.{Bad, Deep}
 use Rattle.text.specs.declared.sink.LeafKind.{LeafKind}
 use Rattle.text.specs.Events.{Event, Put, Enter, Leave, events, leaf_for}
-use Rattle.text.specs.Reports.{Rest, Step, Stops, Makes, Turns, Leafs}
+use Rattle.text.specs.Reports.{Rest, Step, Stops, Makes, Turns, OneLeaf}
 use Rattle.text.proofs.Spells.{Steps, prints, goes}
 
 pub events_join : (x y : Pieces) → events (join x y) ≡ events x ++ events y
@@ -67,7 +68,7 @@ module _ {S : Type 0} (after : S → List Event → S → Type 0) (idle : (a : S
   turns_right c p q s e a r b m = turns_same q (or_p c p q) s a r b (or_right c p q s e) m
 
   -- a leaf of the kind that was found, which the sink is told by what stands in front of the rest
-  pub found : (p : Parser Pieces) (s : List ℕ) (k : LeafKind) (t : Bor (List ℕ)) → Leafs p s k t.now → (a b : S) → ((x : List ℕ) → s ≡ x ++ t.now → after a (Put (leaf_for k x) ∷ []) b) → Makes after p s a (Ok t) b
+  pub found : (p : Parser Pieces) (s : List ℕ) (k : LeafKind) (t : Bor (List ℕ)) → OneLeaf p s k t.now → (a b : S) → ((x : List ℕ) → s ≡ x ++ t.now → after a (Put (leaf_for k x) ∷ []) b) → Makes after p s a (Ok t) b
   found p s k t l a b h = (only_leaf (leaf_for k l.0), record { left = (l.0, l.1); reads = l.2 }, h l.0 l.1)
 
   -- nothing
@@ -109,7 +110,7 @@ module _ {S : Type 0} (after : S → List Event → S → Type 0) (idle : (a : S
   -- a loop
   module _ (p : Parser (Pieces ⊎ Pieces)) (h : Steps p) (s : List ℕ) where
     unrolled : loop_p p s ≡ map_r G (turn (iter_p p) (p s))
-    unrolled = ap (map_r G) (iter_turn print print p h s)
+    unrolled = ap (map_r G) (iter_turn p (turn_less print print p h) s)
 
     onto_joins : (x : Pieces) (y : Res (List Pieces × Pieces)) → map_r G (map_r (onto x) y) ≡ map_r (join x) (map_r G y)
     onto_joins x (res (ok y) t) = refl
@@ -148,5 +149,5 @@ pub stops_map : {A B : Type 0} (g : A → B) (p : Parser A) (s : List ℕ) (f : 
 stops_map g p s f x = stops_here (map_r g) p (map_p g p) s (λ u. refl) (λ u. refl) refl f x
 
 -- a lexeme that was read is a leaf of a kind
-pub leaf_found : (l : ℕ) (k : LeafKind) (p : Parser (List ℕ)) → Bytes l p → (s t : List ℕ) → Passes p s t → Leafs (map_p (λ y. only_leaf (leaf_for k y)) p) s k t
+pub leaf_found : (l : ℕ) (k : LeafKind) (p : Parser (List ℕ)) → Bytes l p → (s t : List ℕ) → Passes p s t → OneLeaf (map_p (λ y. only_leaf (leaf_for k y)) p) s k t
 leaf_found l k p h s t x = (x.0, bytes_part l p h s t x.0 x.1, ap (map_r (λ y. only_leaf (leaf_for k y))) x.1.reads)

@@ -1,14 +1,15 @@
 -- Pieces of trivia. Assumes nothing.
-use Rattle.std.proofs.Common.{◌≡◌, ℕ, Bool, true, false, not, ◌||◌, ◌⊎◌, List, [], ◌∷◌, ◌++◌, Ok, refl, ap, ◌∙◌, inl, inr, Continue, Break, true≢false}
+use Rattle.std.proofs.Common.{◌≡◌, ℕ, Bool, true, false, ◌||◌, ◌⊎◌, List, [], ◌∷◌, ◌++◌, Ok, refl, ap, ◌∙◌, inl, inr, Continue, Break}
 use mathlib.Core.Bool.{false≢true}
 use Rattle.std.specs.Borrow.{Bor}
-use Rattle.std.proofs.lemmas.Bool.{or_from, or_left, or_right}
+use Rattle.std.proofs.lemmas.Bool.{not-true, not-false, or_from, or_left, or_right}
 use Rattle.grammar.specs.Parse.{ok, res, map_r, Parser, Class, starts, one_p, eps_p, bind, seq_p, pick, alt_p, map_p}
 use Rattle.grammar.specs.Classes.{only, Blank, LineEnd, Gap, InLine}
 use Rattle.grammar.specs.Layout.{Line, Block}
 use Rattle.grammar.specs.Pieces.{newline, line_feed, comment, Pieces, leaf}
 use Rattle.grammar.specs.Reader.{byte_p, cat_p, run_p, chars_p, block_p, nothing_p, only_leaf, space_p, returned, return_p, newline_p, line_end_p, comment_of, comment_p, plain_p, piece_p, unit_p}
 use Rattle.grammar.proofs.Laws.{apart, apart_ok}
+use Rattle.grammar.proofs.Trivias.{feed_p, star_p, line_p}
 use Rattle.lexemes.specs.Scan.{Left, Fails, Passes}
 use Rattle.lexemes.proofs.Ties.{left_on, starts_app, byte_split, byte_starts, byte_none, one_is, cat_goes}
 use Rattle.lexemes.proofs.Ties.{or_left as choose_left, or_right as choose_right}
@@ -18,7 +19,7 @@ use Rattle.text.specs.declared.fault.Fault.TheVariants.{Bad}
 use Rattle.text.specs.declared.sink.LeafKind.TheVariants as kind
 use Rattle.line_break.specs.declared.NewlineKind.TheVariants.{LineFeed, CarriageReturn, CarriageReturnLineFeed}
 use Rattle.text.specs.Events.{Event, Put, events, leaf_for}
-use Rattle.text.specs.Reports.{Step, Stops, Makes, Turns, Leafs, open_line}
+use Rattle.text.specs.Reports.{Step, Stops, Makes, Turns, OneLeaf, open_line}
 use Rattle.text.proofs.Spells.{space_bytes}
 use Rattle.text.proofs.Telling as telling
 use Rattle.text.proofs.Telling.{stops_by, leaf_found}
@@ -28,30 +29,16 @@ pub starts_apart : (c d : Class) → apart c d ≡ true → (t : List ℕ) → s
 starts_apart c d h [] e = refl
 starts_apart c d h (b ∷ t) e = apart_ok c d h b e
 
-abbrev block_body : Parser (ℕ × List ℕ)
-block_body = seq_p (one_p (only 42)) block_p
-
-abbrev line_body : Bool → Parser (ℕ × (List ℕ × (Pieces ⊎ Unit {0})))
-line_body last = seq_p (one_p (only 47)) (seq_p (chars_p InLine) (line_end_p last))
-
 abbrev body_p : Bool → Parser ((ℕ × List ℕ) ⊎ (ℕ × (List ℕ × (Pieces ⊎ Unit {0}))))
-body_p last = alt_p (only 42) block_body (line_body last)
+body_p last = alt_p (only 42) star_p (line_p last)
 
 -- what ends a line comment, where it does not end the text
 line_goes : (last : Bool) (t : List ℕ) → open_line last (starts LineEnd t) ≡ false → line_end_p last t ≡ map_r inl (newline_p t)
-line_goes true t e = ap (λ v. pick v newline_p eps_p t) (not_not (starts LineEnd t) e)
-  where
-    not_not : (v : Bool) → not v ≡ false → v ≡ true
-    not_not true z = refl
-    not_not false z = absurd (true≢false z)
+line_goes true t e = ap (λ v. pick v newline_p eps_p t) (not-false (starts LineEnd t) e)
 line_goes false t e = refl
 
 line_stops : (last : Bool) (t : List ℕ) → open_line last (starts LineEnd t) ≡ true → line_end_p last t ≡ res (ok (inr tt)) t
-line_stops true t e = ap (λ v. pick v newline_p eps_p t) (not_true (starts LineEnd t) e)
-  where
-    not_true : (v : Bool) → not v ≡ true → v ≡ false
-    not_true true z = absurd (false≢true z)
-    not_true false z = refl
+line_stops true t e = ap (λ v. pick v newline_p eps_p t) (not-true (starts LineEnd t) e)
 line_stops false t e = absurd (false≢true e)
 
 -- a comment of the text s, behind whose slash m is left
@@ -75,7 +62,7 @@ module _ (last : Bool) (s m : List ℕ) (x : Passes (byte_p (only 47)) s m) wher
     starred : comment_p last s ≡ map_r comment_of (map_r (λ w. (first, w)) (map_r inl (map_r (λ w. (star, w)) (block_p b))))
     starred =
         slashed
-        ∙ ap (λ v. map_r comment_of (map_r (λ w. (first, w)) (pick v block_body (line_body last) m))) (byte_starts (only 42) m b y)
+        ∙ ap (λ v. map_r comment_of (map_r (λ w. (first, w)) (pick v star_p (line_p last) m))) (byte_starts (only 42) m b y)
         ∙ ap (λ z. map_r comment_of (map_r (λ w. (first, w)) (map_r inl (bind block_p z)))) (one_is (only 42) m b y)
 
     pub block_left : (t : List ℕ) → Passes block_p b t → Left t s
@@ -96,8 +83,8 @@ module _ (last : Bool) (s m : List ℕ) (x : Passes (byte_p (only 47)) s m) wher
 
   -- no star behind the slash
   module _ (n : List ℕ) (no : Fails (byte_p (only 42)) m n) where
-    unstarred : comment_p last s ≡ map_r comment_of (map_r (λ w. (first, w)) (map_r inr (line_body last m)))
-    unstarred = slashed ∙ ap (λ v. map_r comment_of (map_r (λ w. (first, w)) (pick v block_body (line_body last) m))) (byte_none (only 42) m n no)
+    unstarred : comment_p last s ≡ map_r comment_of (map_r (λ w. (first, w)) (map_r inr (line_p last m)))
+    unstarred = slashed ∙ ap (λ v. map_r comment_of (map_r (λ w. (first, w)) (pick v star_p (line_p last) m))) (byte_none (only 42) m n no)
 
     -- a second slash
     module _ (b : List ℕ) (y : Passes (byte_p (only 47)) m b) where
@@ -188,10 +175,7 @@ unit_none after idle joined last s a n z k e =
 abbrev lf_p : Parser Pieces
 lf_p = map_p (λ _. only_leaf (newline line_feed)) (one_p (only 10))
 
-abbrev feed_p : Parser (ℕ ⊎ Unit {0})
-feed_p = alt_p (only 10) (one_p (only 10)) eps_p
-
-pub feed_found : (s t : List ℕ) → Passes (byte_p (only 10)) s t → Leafs newline_p s (kind.Newline LineFeed) t
+pub feed_found : (s t : List ℕ) → Passes (byte_p (only 10)) s t → OneLeaf newline_p s (kind.Newline LineFeed) t
 feed_found s t x =
     let b = byte_split (only 10) s t x in
     (b.0 ∷ [], b.1, choose_left (only 10) lf_p return_p s (byte_starts (only 10) s t x) ∙ ap (map_r (λ _. only_leaf (newline line_feed))) (one_is (only 10) s t x))
@@ -205,7 +189,7 @@ module _ (s t : List ℕ) (x : Passes (byte_p (only 13)) s t) where
       choose_right (only 10) lf_p return_p s (starts_apart (only 13) (only 10) refl s (byte_starts (only 13) s t x))
       ∙ ap (λ z. map_r returned (bind feed_p z)) (one_is (only 13) s t x)
 
-  pub both_found : (u : List ℕ) → Passes (byte_p (only 10)) t u → Leafs newline_p s (kind.Newline CarriageReturnLineFeed) u
+  pub both_found : (u : List ℕ) → Passes (byte_p (only 10)) t u → OneLeaf newline_p s (kind.Newline CarriageReturnLineFeed) u
   both_found u y =
       let b = byte_split (only 10) t u y in (
         return ∷ b.0 ∷ [],
@@ -215,6 +199,6 @@ module _ (s t : List ℕ) (x : Passes (byte_p (only 13)) s t) where
             ∙ ap (λ z. map_r returned (map_r (λ w. (return, w)) (map_r inl z))) (one_is (only 10) t u y),
       )
 
-  pub return_found : (u : List ℕ) → Fails (byte_p (only 10)) t u → Leafs newline_p s (kind.Newline CarriageReturn) t
+  pub return_found : (u : List ℕ) → Fails (byte_p (only 10)) t u → OneLeaf newline_p s (kind.Newline CarriageReturn) t
   return_found u y =
       (return ∷ [], (byte_split (only 13) s t x).1, returns ∙ ap (λ v. map_r returned (map_r (λ w. (return, w)) (pick v (one_p (only 10)) eps_p t))) (byte_none (only 10) t u y))

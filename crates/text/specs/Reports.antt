@@ -44,17 +44,17 @@ open_line true ends = not ends
 open_line false ends = false
 
 -- of the text s the parser reads one leaf of the kind, which is what stands in front of t
-abbrev pub Leafs : Parser Pieces → List ℕ → LeafKind → List ℕ → Type 0
-Leafs p s k t = (x : List ℕ) × (s ≡ x ++ t) × (p s ≡ res (ok (only_leaf (leaf_for k x))) t)
+abbrev pub OneLeaf : Parser Pieces → List ℕ → LeafKind → List ℕ → Type 0
+OneLeaf p s k t = (x : List ℕ) × (s ≡ x ++ t) × (p s ≡ res (ok (only_leaf (leaf_for k x))) t)
 
 -- the parser reads such a leaf, and leaves what stands in Ok beside its kind, or fails where the mismatch is
 abbrev pub Finds : Parser Pieces → List ℕ → Result (LeafKind × Bor (List ℕ)) Mismatch → Type 0
-Finds p s (Ok x) = Leafs p s x.0 x.1.now
+Finds p s (Ok x) = OneLeaf p s x.0 x.1.now
 Finds p s (Err e) = Fails p s e.rest.now
 
 -- the same, where the leaf is a line break
 abbrev pub Breaks : Parser Pieces → List ℕ → Result (NewlineKind × Bor (List ℕ)) Mismatch → Type 0
-Breaks p s (Ok x) = Leafs p s (Newline x.0) x.1.now
+Breaks p s (Ok x) = OneLeaf p s (Newline x.0) x.1.now
 Breaks p s (Err e) = Fails p s e.rest.now
 
 -- of the text s what stands in front of a parser's part is read; whatever that part then reads is read behind it

@@ -13,7 +13,7 @@ use lexemes::mismatch::Mismatch;
 use lexemes::numbers::behind_number;
 use lexemes::strings::behind_string;
 
-// false / null / true / number / string, and what is left behind it
+// false / null / true / number / string, and what is left behind it; the first byte is asked apart, since it alone says which answers
 fn scalar(text: &[u8]) -> Result<(LeafKind, &[u8]), Mismatch<'_>>
     ensures { Finds scalar_p text.now result }
 {

@@ -1,7 +1,9 @@
 pub mod Spots
 pub mod Seen
+pub mod Spelt
 pub mod Nodes
 pub mod Classes
 pub mod Listed
+pub mod Consumers
 pub mod Rooms
 pub mod Emptied

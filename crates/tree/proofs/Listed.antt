@@ -10,7 +10,10 @@ use Rattle.model.specs.Nodes.{Handle, Nodes, Class, gap, mark, value, class}
 use Rattle.model.specs.Asks.{Frame, Spot, sort_of, spot_handle, first_handle, any, tally, width, child_at, is_comma, is_gap, is_value, value_in, comma_at, trailing, then, or_else, last_at, behind_last}
 use Rattle.model.specs.State.{parent_spot}
 use Rattle.tree.specs.declared.node.Node.{Node}
-use Rattle.tree.specs.Steps.{spot, rest, back, ahead, behind, spots_on, spots_back, spots_up, later_spots, earlier_spots}
+use Rattle.tree.specs.declared.walks.Siblings.{Siblings}
+use Rattle.tree.specs.declared.walks.Preceding.{Preceding}
+use Rattle.tree.specs.Steps.{spot, rest, back, ahead, behind, spots_on, spots_back, spots_up, child_spots, later_spots, earlier_spots}
+use Rattle.tree.specs.Walks.{siblings_left, preceding_left}
 
 -- as many as there are
 pub length_on : (us : List Frame) (bs ts : Nodes) → length (spots_on us bs ts) ≡ width ts
@@ -152,6 +155,13 @@ back_is (Some n) us ts end e = let z : ◌≡◌ {A = ℕ} 0 1 = cc in absurd (o
 back_is (Some n) us ts (node p i ks bs) e =
     let z : spot n ≡ record { here = record { before = bs; place = p; own = i; after = ts }; kids = ks; ups = us } = cc in
     ap (λ s. node s.here.place s.here.own s.kids s.here.before) z
+
+-- a loop over a node's children, or over the siblings before it, begins with all of them
+pub begin_on : (w v : Siblings) (s : Spot) → w ≡ v → siblings_left v ≡ child_spots s → rest w.at ≡ s.kids
+begin_on w v s e l = rest_is w.at (s.here ∷ s.ups) end s.kids (ap siblings_left e ∙ l)
+
+pub begin_back : (w v : Preceding) (s : Spot) → w ≡ v → preceding_left v ≡ earlier_spots s → back w.at ≡ s.here.before
+begin_back w v s e l = back_is w.at s.ups (node s.here.place s.here.own s.kids s.here.after) s.here.before (ap preceding_left e ∙ l)
 
 -- a turn of a loop: the node that came, with what is left behind it
 pub turn_on : (a b : Option Node) (n : Node) → ahead a ≡ spot n ∷ ahead b → rest a ≡ node (spot n).here.place (spot n).here.own (spot n).kids (rest b)

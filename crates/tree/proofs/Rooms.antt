@@ -24,7 +24,7 @@ size_fill : (us : List Frame) (t : Nodes) → size t + length us ≤ size (fill 
 size_fill [] t = omega arith
 size_fill (f ∷ us) t = omega (arith, size_fill us (onto f.before (node f.place f.own t f.after)), size_onto f.before (node f.place f.own t f.after))
 
-width_size : (t : Nodes) → width t ≤ size t
+pub width_size : (t : Nodes) → width t ≤ size t
 width_size end = omega arith
 width_size (node p i ks t) = omega (arith, width_size t)
 

@@ -111,25 +111,23 @@ impl<'a> Node<'a> {
     }
 
     /// What the node prints itself.
+    #[tactic(auto, using(crate::proofs::Seen::in_table, crate::proofs::Seen::part_is))]
     pub fn spelling(self) -> &'a [u8]
         ensures { result.now ≡ spelt (spot self.entry).here.own.sort }
     {
         let own = self.tree.table.own(self.place);
         match own.kind {
-            Kind::Root => b"",
-            Kind::Array => b"",
-            Kind::Object => b"",
-            Kind::Property => b"",
+            Kind::Root | Kind::Array | Kind::Object | Kind::Property => b"",
             Kind::Null => b"null",
             Kind::Boolean(value) => boolean_bytes(value),
-            Kind::Number => self.tree.stored(own),
-            Kind::String => self.tree.stored(own),
-            Kind::Name => self.tree.stored(own),
             Kind::Token(token) => token_bytes(token),
-            Kind::Whitespace => self.tree.stored(own),
             Kind::Newline(newline) => newline.spelling(),
-            Kind::LineComment => self.tree.stored(own),
-            Kind::BlockComment => self.tree.stored(own),
+            Kind::Name
+            | Kind::Number
+            | Kind::String
+            | Kind::Whitespace
+            | Kind::LineComment
+            | Kind::BlockComment => self.tree.stored(own),
         }
     }
 }

@@ -41,13 +41,10 @@ pub enum NodeKind {
 fn token_class(token: char) -> Class
     ensures { (t : List ℕ) → result ≡ plain (class_of (sort_for (Kind.Token token) t)) }
 {
-    match token {
-        '[' => Class::Mark,
-        ']' => Class::Mark,
-        '{' => Class::Mark,
-        '}' => Class::Mark,
-        ',' => Class::Comma,
-        _ => Class::Mark,
+    if token == ',' {
+        Class::Comma
+    } else {
+        Class::Mark
     }
 }
 
@@ -56,20 +53,13 @@ pub fn class_of(kind: Kind) -> Class
     ensures { (t : List ℕ) → result ≡ plain (class_of (sort_for kind t)) }
 {
     match kind {
-        Kind::Root => Class::Value,
-        Kind::Array => Class::Value,
-        Kind::Object => Class::Value,
-        Kind::Property => Class::Value,
-        Kind::Null => Class::Value,
-        Kind::Boolean(_) => Class::Value,
-        Kind::Number => Class::Value,
-        Kind::String => Class::Value,
+        Kind::Root | Kind::Array | Kind::Object | Kind::Property => Class::Value,
+        Kind::Null | Kind::Boolean(_) | Kind::Number | Kind::String => Class::Value,
         Kind::Name => Class::Mark,
         Kind::Token(token) => token_class(token),
         Kind::Whitespace => Class::Blank,
         Kind::Newline(_) => Class::Break,
-        Kind::LineComment => Class::Remark,
-        Kind::BlockComment => Class::Remark,
+        Kind::LineComment | Kind::BlockComment => Class::Remark,
     }
 }
 
@@ -85,13 +75,11 @@ pub fn node_kind(kind: Kind) -> NodeKind
         Kind::Null => NodeKind::Null,
         Kind::Boolean(_) => NodeKind::Boolean,
         Kind::Number => NodeKind::Number,
-        Kind::String => NodeKind::String,
-        Kind::Name => NodeKind::String,
+        Kind::String | Kind::Name => NodeKind::String,
         Kind::Token(_) => NodeKind::Token,
         Kind::Whitespace => NodeKind::Whitespace,
         Kind::Newline(_) => NodeKind::Newline,
-        Kind::LineComment => NodeKind::Comment,
-        Kind::BlockComment => NodeKind::Comment,
+        Kind::LineComment | Kind::BlockComment => NodeKind::Comment,
     }
 }
 

@@ -17,6 +17,7 @@ fn cut_all(table: &mut Table)
     ensures forest { tree_of table.new ≡ alone (tree_of table.old) }
     ensures given { free_of table.new ≡ reverse (places (below (tree_of table.old))) ++ free_of table.old }
 {
+    // No `for`: the table changes under the walk.
     while let Some(child) = table.first(0) {
         table.remove(child);
     }

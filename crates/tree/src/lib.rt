@@ -1,5 +1,5 @@
 //! A document's tree: the node table with the bytes of its leaves. The crates above walk it by steps from node to node, and speak of
-//! its nodes alone (specs/Steps.antt).
+//! its nodes alone (specs/Places.antt, Steps.antt, Walks.antt).
 #![tactic(auto)]
 
 mod asks;

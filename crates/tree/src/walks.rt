@@ -7,20 +7,22 @@ ghost use Rattle.tree.specs.Walks.{siblings_left, preceding_left, ancestors_left
 
 use crate::node::Node;
 
+// The three differ in their step alone: one walk over any step would be a type parameter and a trait for three bodies of a line each.
+
 /// A node and its siblings behind it.
-#[derive(Clone, Copy)]
+#[derive(Drop)]
 pub struct Siblings<'a> {
     at: Option<Node<'a>>,
 }
 
 /// A node and its siblings before it, nearest first.
-#[derive(Clone, Copy)]
+#[derive(Drop)]
 pub struct Preceding<'a> {
     at: Option<Node<'a>>,
 }
 
 /// A node and its ancestors, the parent first.
-#[derive(Clone, Copy)]
+#[derive(Drop)]
 pub struct Ancestors<'a> {
     at: Option<Node<'a>>,
 }

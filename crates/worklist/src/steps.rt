@@ -13,7 +13,8 @@ impl<'a, T: Copy> WorkList<'a, T> {
         WorkList { items, live: 0..0 }
     }
 
-    /// Puts `x` at the back; false where no room is left behind the last, which leaves the list as it is.
+    /// Puts `x` at the back; false where no room is left behind the last, which leaves the list as it is. A bool, as a set's insert answers: the
+    /// caller still has `x`.
     pub fn push(&mut self, x: T) -> bool
         ensures test { result ≡ nat_lt (taken self.old + length (listed self.old)) (room self.old) }
         ensures list { Pushed result x self.old self.new }

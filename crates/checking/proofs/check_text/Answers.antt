@@ -1,4 +1,4 @@
-use Rattle.std.proofs.Common.{Ok, ap, ◌∙◌, subst, rules, arith}
+use Rattle.std.proofs.Common.{subst, rules, arith}
 use Rattle.checking.specs.Counted.{Counted}
 use Rattle.text.specs.Events.{events}
 use Rattle.checking.proofs.Verdicts.{finished}
@@ -9,8 +9,7 @@ pub returns-in-Ok-empty-clause-answer : goal.returns-in-Ok-empty-clause-answer
 returns-in-Ok-empty-clause-answer c =
     let m = c.in-Ok-empty.ensures in
     let b = c.read_text.new.sink in
-    ap Ok c.extent.ensures
-    ∙ finished c.args.text.now c.if-text-gt-MAX_TEXT.false m.0 c.in-Ok-empty.field-0.now m.1 (omega arith) b (subst (λ z. Counted z (events m.0) b) c.new-counter.ensures m.2)
+    finished c.args.text.now c.if-text-gt-MAX_TEXT.false m.0 c.in-Ok-empty.field-0.now m.1 (omega arith) b (subst (λ z. Counted z (events m.0) b) c.new-counter.ensures m.2)
 
 pub returns-in-Ok-empty-clause-reader : goal.returns-in-Ok-empty-clause-reader
 returns-in-Ok-empty-clause-reader c = right 64

@@ -1,14 +1,15 @@
 use Rattle.std.proofs.Common.{ℕ, sym, ◌∙◌}
 use Rattle.refusal.specs.declared.Refusal.TheVariants.{NotHere}
 use Rattle.tree.specs.Sorts.{handle_for}
-use Rattle.paths.proofs.Told.{absent, path_told, path_untold, refused_exit}
+use Rattle.document.proofs.Asked.{absent_exit}
+use Rattle.paths.proofs.Told.{path_told, path_untold}
 use Rattle.paths.proofs.calls.path.Goals as goal
 
 pub returns-in_err-steps : goal.returns-in_err-steps
 returns-in_err-steps c =
-    let a = absent c.path_length.result c.in_err-steps.field-0.0 NotHere c.in_err-steps.ensures.value in
+    let a = absent_exit (λ (n : ℕ). n) c.from_residual-in_err-steps.result c.path_length.result c.in_err-steps.field-0.0 NotHere c.from_residual-in_err-steps.ensures.1 c.in_err-steps.ensures.value in
     let p = path_untold c.args.document.now.tree (handle_for c.args.handle) _ c.if-list-lt-PATH_PLACES.false c.in_ok-node.node c.in_ok-node.ensures c.args.list.now (sym a.0 ∙ c.path_length.ensures.steps) in
-    record { answer = refused_exit (λ (n : ℕ). n) c.from_residual-in_err-steps.result c.in_err-steps.field-0.0 _ c.from_residual-in_err-steps.ensures.1 a.1 ∙ p.0; holds = p.1 }
+    record { answer = a.1 ∙ p.0; holds = p.1 }
 
 pub returns : goal.returns
 returns c =

@@ -1,8 +1,6 @@
 use Rattle.std.proofs.Common.{sym, ap, ◌∙◌}
-use Rattle.std.proofs.lemmas.Iterator.Consumers.{count_from_yields_List, YieldsList-from_first}
 use Rattle.tree.specs.Steps.{spot}
-use Rattle.tree.specs.Walks.{ancestors_left}
-use Rattle.tree.proofs.Listed.{length_up}
+use Rattle.tree.proofs.Consumers.{counted_up}
 use Rattle.paths.specs.Ways.{measured}
 use Rattle.paths.proofs.Grounds.{no_path, no_root_path}
 use Rattle.paths.proofs.Climbs.{top, measured_is}
@@ -20,5 +18,5 @@ pub returns : goal.returns
 returns c =
     let p = c.in_ok-parent.parent in
     let m = measured_is c.args.node p c.count.result (sym c.is_value.ensures ∙ c.if-not-is_value.false) c.in_ok-parent.ensures.spots
-    (count_from_yields_List c.ancestors.result c.count.result c.count.ensures.ran (YieldsList-from_first spot ancestors_left _ c.ancestors.ensures.spots) ∙ length_up (spot p) (spot p).ups) in
+    (counted_up (spot p) c.count.result c.count.ensures.ran c.ancestors.ensures.spots) in
     record { steps = m.0; few = m.1 }

@@ -1,7 +1,7 @@
 -- One child more.
-use Rattle.std.proofs.Common.{sym, ap, ◌∙◌}
-use Rattle.tree.specs.Steps.{spot, rest, ahead}
-use Rattle.tree.proofs.Listed.{rest_is, turn_on, none_on}
+use Rattle.std.proofs.Common.{sym, ◌∙◌}
+use Rattle.tree.specs.Steps.{spot, rest}
+use Rattle.tree.proofs.Listed.{begin_on, turn_on, none_on}
 use Rattle.tree.proofs.Nodes.{spot_place}
 use Rattle.style.proofs.Filling.{filling_start, filling_turn, filling_end}
 use Rattle.style.proofs.children.push_children.Goals as goal
@@ -9,7 +9,7 @@ use Rattle.style.proofs.children.push_children.Goals as goal
 pub loop-child-init : goal.loop-child-init
 loop-child-init c =
     filling_start (spot c.args.node).kids c.args.queue.now (rest c.into_iter-child-iterator.result.at)
-    (rest_is _ _ _ (spot c.args.node).kids (ap (λ w. ahead w.at) c.into_iter-child-iterator.ensures.into_iter_gives ∙ c.children-child-items.ensures.spots)) c.requires
+    (begin_on _ _ (spot c.args.node) c.into_iter-child-iterator.ensures.into_iter_gives c.children-child-items.ensures.spots) c.requires
 
 pub loop-child-preserved : goal.loop-child-preserved
 loop-child-preserved c =

@@ -7,17 +7,29 @@ use Rattle.tree.proofs.node.Node.next.Goals as goal
 pub next-requires : goal.next-requires
 next-requires c = in_table c.args.self.tree.now c.args.self.place c.args.self.stands
 
-pub returns-in_err-place : goal.returns-in_err-place
-returns-in_err-place c =
+pub returns-in_err-place-clause-siblings : goal.returns-in_err-place-clause-siblings
+returns-in_err-place-clause-siblings c =
     let n = c.args.self in
     let m = next_is n.tree.now n.place n.stands None c.in_err-place.ensures in
-    record { siblings = ap rest c.from_residual.ensures ∙ m.1; spots = ap ahead c.from_residual.ensures ∙ m.2 }
+    ap rest c.from_residual.ensures ∙ m.1
+
+pub returns-in_err-place-clause-spots : goal.returns-in_err-place-clause-spots
+returns-in_err-place-clause-spots c =
+    let n = c.args.self in
+    let m = next_is n.tree.now n.place n.stands None c.in_err-place.ensures in
+    ap ahead c.from_residual.ensures ∙ m.2
 
 pub node-requires : goal.node-requires
 node-requires c = (let n = c.args.self in (next_is n.tree.now n.place n.stands (Some c.in_ok-place.place) c.in_ok-place.ensures).0)
 
-pub returns : goal.returns
-returns c =
+pub returns-clause-siblings : goal.returns-clause-siblings
+returns-clause-siblings c =
     let n = c.args.self in
     let m = next_is n.tree.now n.place n.stands (Some c.in_ok-place.place) c.in_ok-place.ensures in
-    record { siblings = ap from c.node.ensures.spot ∙ m.1; spots = ap (λ u. u ∷ later_spots u) c.node.ensures.spot ∙ m.2 }
+    ap from c.node.ensures.spot ∙ m.1
+
+pub returns-clause-spots : goal.returns-clause-spots
+returns-clause-spots c =
+    let n = c.args.self in
+    let m = next_is n.tree.now n.place n.stands (Some c.in_ok-place.place) c.in_ok-place.ensures in
+    ap (λ u. u ∷ later_spots u) c.node.ensures.spot ∙ m.2
