@@ -112,7 +112,7 @@ def main():
         for what, find in kinds:
             found = find()
             by = collections.Counter(p.split("/")[1] for p, _, _ in found)
-            print(f"{point}. {what}: {len(found)}" + (" (" + ", ".join(f"{c} {k}" for c, k in sorted(by.items())) + ")" if found else ""))
+            print(f"{point}. {what}: {len(found)}" + (" (" + ", ".join(f"{c}={k}" for c, k in sorted(by.items())) + ")" if found else ""))
             if point in asked:
                 for p, n, line in found:
                     print(f"     {p}:{n}: {line}")

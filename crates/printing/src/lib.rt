@@ -3,7 +3,7 @@
 
 mod asks;
 pub mod buffers;
-pub mod sizes;
-pub mod writes;
+mod sizes;
+mod writes;
 
 pub use asks::{print, text};

@@ -10,5 +10,4 @@ mod levels;
 mod newline;
 
 pub use calls::{newline_kind, uses_trailing_commas};
-pub use commas::uses_trailing_commas_in;
-pub use newline::{NewlineKind, newline_kind_in};
+pub use newline::NewlineKind;
