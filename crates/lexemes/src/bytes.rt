@@ -10,6 +10,7 @@ use crate::classes::ByteClass;
 use crate::mismatch::Mismatch;
 
 /// Whether a byte of the class comes next.
+#[inline(always)]
 pub fn next_is(text: &[u8], class: ByteClass) -> bool
     ensures { result ≡ starts (bytes_of class) text.now }
 {
@@ -20,6 +21,7 @@ pub fn next_is(text: &[u8], class: ByteClass) -> bool
 }
 
 /// What is left behind one byte of the class.
+#[inline(always)]
 pub fn behind_byte(text: &[u8], class: ByteClass) -> Result<&[u8], Mismatch<'_>>
     ensures { Goes (byte_p (bytes_of class)) text.now result }
 {

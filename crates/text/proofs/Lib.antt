@@ -1,6 +1,7 @@
 pub mod Spells
 pub mod Telling
 pub mod Trivia
+pub mod Classed
 pub mod Leaves
 pub mod Nests
 pub mod Firm

@@ -1,9 +1,10 @@
 -- Pieces of trivia. Assumes nothing.
-use Rattle.std.proofs.Common.{◌≡◌, ℕ, Bool, true, false, ◌||◌, ◌⊎◌, List, [], ◌∷◌, ◌++◌, Ok, refl, ap, ◌∙◌, inl, inr, Continue, Break}
+use Rattle.std.proofs.Common.{◌≡◌, ℕ, Bool, true, false, ◌||◌, ◌⊎◌, List, [], ◌∷◌, ◌++◌, drop, Ok, sym, refl, ap, ◌∙◌, subst, inl, inr, Continue, Break, arith}
 use mathlib.Core.Bool.{false≢true}
 use Rattle.std.specs.Borrow.{Bor}
+use Rattle.std.proofs.lemmas.Bool.Decides.{nat_tests}
 use Rattle.std.proofs.lemmas.Bool.{not-true, not-false, or_from, or_left, or_right}
-use Rattle.grammar.specs.Parse.{ok, res, map_r, Parser, Class, starts, one_p, eps_p, bind, seq_p, pick, alt_p, map_p}
+use Rattle.grammar.specs.Parse.{ok, res, map_r, Parser, Class, within, starts, one_p, eps_p, bind, seq_p, pick, alt_p, map_p}
 use Rattle.grammar.specs.Classes.{only, Blank, LineEnd, Gap, InLine}
 use Rattle.grammar.specs.Layout.{Line, Block}
 use Rattle.grammar.specs.Pieces.{newline, line_feed, comment, Pieces, leaf}
@@ -11,7 +12,7 @@ use Rattle.grammar.specs.Reader.{byte_p, cat_p, run_p, chars_p, block_p, nothing
 use Rattle.grammar.proofs.Laws.{apart, apart_ok}
 use Rattle.grammar.proofs.Trivias.{feed_p, star_p, line_p}
 use Rattle.lexemes.specs.Scan.{Left, Fails, Passes}
-use Rattle.lexemes.proofs.Ties.{left_on, starts_app, byte_split, byte_starts, byte_none, one_is, cat_goes}
+use Rattle.lexemes.proofs.Ties.{left_on, starts_app, byte_split, byte_passes, byte_starts, byte_none, one_is, cat_goes}
 use Rattle.lexemes.proofs.Ties.{or_left as choose_left, or_right as choose_right}
 use Rattle.lexemes.proofs.Lexed.{bytes_part, bytes_block, bytes_chars}
 use Rattle.text.specs.declared.fault.Fault.{Fault}
@@ -19,7 +20,7 @@ use Rattle.text.specs.declared.fault.Fault.TheVariants.{Bad}
 use Rattle.text.specs.declared.sink.LeafKind.TheVariants as kind
 use Rattle.line_break.specs.declared.NewlineKind.TheVariants.{LineFeed, CarriageReturn, CarriageReturnLineFeed}
 use Rattle.text.specs.Events.{Event, Put, events, leaf_for}
-use Rattle.text.specs.Reports.{Step, Stops, Makes, Turns, OneLeaf, open_line}
+use Rattle.text.specs.Reports.{Step, Stops, Makes, Turns, OneLeaf, crlf, open_line}
 use Rattle.text.proofs.Spells.{space_bytes}
 use Rattle.text.proofs.Telling as telling
 use Rattle.text.proofs.Telling.{stops_by, leaf_found}
@@ -180,6 +181,11 @@ feed_found s t x =
     let b = byte_split (only 10) s t x in
     (b.0 ∷ [], b.1, choose_left (only 10) lf_p return_p s (byte_starts (only 10) s t x) ∙ ap (map_r (λ _. only_leaf (newline line_feed))) (one_is (only 10) s t x))
 
+-- behind the CR of a text that does not begin with CR LF there is no LF
+no_feed : (b : ℕ) (t : List ℕ) → crlf (b ∷ t) ≡ false → within (only 13) b ≡ true → starts (only 10) t ≡ false
+no_feed b [] e f = refl
+no_feed b (y ∷ t) e f = grind (arith, nat_tests)
+
 module _ (s t : List ℕ) (x : Passes (byte_p (only 13)) s t) where
   abbrev return : ℕ
   return = (byte_split (only 13) s t x).0
@@ -189,7 +195,7 @@ module _ (s t : List ℕ) (x : Passes (byte_p (only 13)) s t) where
       choose_right (only 10) lf_p return_p s (starts_apart (only 13) (only 10) refl s (byte_starts (only 13) s t x))
       ∙ ap (λ z. map_r returned (bind feed_p z)) (one_is (only 13) s t x)
 
-  pub both_found : (u : List ℕ) → Passes (byte_p (only 10)) t u → OneLeaf newline_p s (kind.Newline CarriageReturnLineFeed) u
+  both_found : (u : List ℕ) → Passes (byte_p (only 10)) t u → OneLeaf newline_p s (kind.Newline CarriageReturnLineFeed) u
   both_found u y =
       let b = byte_split (only 10) t u y in (
         return ∷ b.0 ∷ [],
@@ -199,6 +205,17 @@ module _ (s t : List ℕ) (x : Passes (byte_p (only 13)) s t) where
             ∙ ap (λ z. map_r returned (map_r (λ w. (return, w)) (map_r inl z))) (one_is (only 10) t u y),
       )
 
-  pub return_found : (u : List ℕ) → Fails (byte_p (only 10)) t u → OneLeaf newline_p s (kind.Newline CarriageReturn) t
-  return_found u y =
-      (return ∷ [], (byte_split (only 13) s t x).1, returns ∙ ap (λ v. map_r returned (map_r (λ w. (return, w)) (pick v (one_p (only 10)) eps_p t))) (byte_none (only 10) t u y))
+  lone : starts (only 10) t ≡ false → OneLeaf newline_p s (kind.Newline CarriageReturn) t
+  lone e = (return ∷ [], (byte_split (only 13) s t x).1, returns ∙ ap (λ v. map_r returned (map_r (λ w. (return, w)) (pick v (one_p (only 10)) eps_p t))) e)
+
+  pub return_found : crlf s ≡ false → OneLeaf newline_p s (kind.Newline CarriageReturn) t
+  return_found e = let b = byte_split (only 13) s t x in lone (no_feed b.0 t (ap crlf (sym b.1) ∙ e) b.2)
+
+-- what begins with CR LF
+pub crlf_found : (s t : List ℕ) → crlf s ≡ true → t ≡ drop 2 s → OneLeaf newline_p s (kind.Newline CarriageReturnLineFeed) t
+crlf_found [] t e f = absurd (false≢true e)
+crlf_found (x ∷ []) t e f = absurd (false≢true e)
+crlf_found (x ∷ y ∷ r) t e f =
+    let p : within (only 13) x ≡ true = grind (arith, nat_tests) in
+    let q : within (only 10) y ≡ true = grind (arith, nat_tests) in
+    both_found (x ∷ y ∷ r) (y ∷ r) (byte_passes (only 13) x (y ∷ r) p) t (subst (Passes (byte_p (only 10)) (y ∷ r)) (sym f) (byte_passes (only 10) y r q))

@@ -1,5 +1,5 @@
 -- What a function of the reader answers, and what it has reported to the sink, in terms of a parser of pieces. Assumes nothing.
-use Rattle.std.specs.Prelude.{◌≡◌, ℕ, Bool, true, false, not, ◌⊎◌, List, ◌++◌, Ok, Err, Result}
+use Rattle.std.specs.Prelude.{◌≡◌, ℕ, Bool, true, false, not, ◌&&◌, ◌⊎◌, List, ◌++◌, length, Ok, Err, Result, ◌==◌, nat_lt, slice_index}
 use Rattle.std.proofs.Common.{inl, inr, ControlFlow, Continue, Break}
 use Rattle.std.specs.Borrow.{Bor}
 use Rattle.grammar.specs.Parse.{ok, deep, res, Parser}
@@ -37,6 +37,10 @@ abbrev pub Turns : {S : Type 0} → (S → List Event → S → Type 0) → Pars
 Turns after p s a (Ok (Continue t)) b = (x : Pieces) × Reads p s (inl x) t.now × after a (events x) b
 Turns after p s a (Ok (Break t)) b = (x : Pieces) × Reads p s (inr x) t.now × after a (events x) b
 Turns after p s a (Err f) b = Stops p s f
+
+-- the text begins with CR LF
+abbrev pub crlf : List ℕ → Bool
+crlf s = nat_lt 1 (length s) && slice_index s 0 == 13 && slice_index s 1 == 10
 
 -- a line comment is the last thing of a text: it may be, and no line ends here
 abbrev pub open_line : Bool → Bool → Bool

@@ -1,12 +1,12 @@
 //! Trivia: whitespace, line breaks and comments.
 
-ghost use Rattle.std.specs.Prelude.{◌≡◌, ℕ, List, [], ◌∷◌, ◌++◌};
+ghost use Rattle.std.specs.Prelude.{◌≡◌, ℕ, true, false, List, [], ◌∷◌, ◌++◌, drop, MatchOption};
 ghost use Rattle.grammar.specs.Parse.{starts};
 ghost use Rattle.grammar.specs.Classes.{LineEnd};
 ghost use Rattle.grammar.specs.Reader.{comment_p, newline_p, trivia_p, unit_p};
 ghost use Rattle.lexemes.specs.Scan.{Left};
 ghost use Rattle.text.specs.Events.{Put, leaf_for};
-ghost use Rattle.text.specs.Reports.{Breaks, Makes, Turns, open_line};
+ghost use Rattle.text.specs.Reports.{Breaks, Makes, Turns, crlf, open_line};
 
 use crate::fault::Fault;
 use crate::sink::{LeafKind, Sink};
@@ -25,19 +25,34 @@ pub(crate) fn put_part<S: Sink>(text: &[u8], rest: &[u8], kind: LeafKind, sink: 
     sink.put(kind, &text[..text.len() - rest.len()]);
 }
 
-// Newline = CR LF / LF / CR, and what is left behind it; by one byte after another, since of two slice patterns that begin alike
-// the proof does not see the bytes
+/// What stands behind CR LF, where the text begins with it.
+fn behind_crlf(text: &[u8]) -> Option<&[u8]>
+    ensures { MatchOption result (crlf text.now ≡ false) (λ rest. (crlf text.now ≡ true) × (rest.now ≡ drop 2 text.now)) }
+{
+    match text {
+        [first, second, rest @ ..] => {
+            if *first == b'\r' && *second == b'\n' {
+                Some(rest)
+            } else {
+                None
+            }
+        }
+        _ => None,
+    }
+}
+
+// Newline = CR LF / LF / CR, and what is left behind it
 fn newline(text: &[u8]) -> Result<(NewlineKind, &[u8]), Mismatch<'_>>
     ensures { Breaks newline_p text.now result }
 {
+    if let Some(rest) = behind_crlf(text) {
+        return Ok((NewlineKind::CarriageReturnLineFeed, rest));
+    }
     if let Ok(rest) = behind_byte(text, ByteClass::Only(b'\n')) {
         return Ok((NewlineKind::LineFeed, rest));
     }
-    let feed = behind_byte(text, ByteClass::Only(b'\r'))?;
-    match behind_byte(feed, ByteClass::Only(b'\n')) {
-        Ok(rest) => Ok((NewlineKind::CarriageReturnLineFeed, rest)),
-        Err(_) => Ok((NewlineKind::CarriageReturn, feed)),
-    }
+    let rest = behind_byte(text, ByteClass::Only(b'\r'))?;
+    Ok((NewlineKind::CarriageReturn, rest))
 }
 
 // Newline
@@ -106,7 +121,7 @@ fn read_unit<'a, S: Sink>(
 
 /// The trivia that comes next; at the top of the text, where it may be the last thing, a line comment may be open.
 // Trivia = *( Whitespace / Newline / Comment )
-pub(crate) fn read_trivia<'a, S: Sink>(
+pub fn read_trivia<'a, S: Sink>(
     text: &'a [u8],
     last: bool,
     sink: &mut S,

@@ -2,9 +2,9 @@
 #![tactic(auto)]
 
 pub mod fault;
-mod frame;
-mod gaps;
-mod scalars;
+pub mod frame;
+pub mod gaps;
+pub mod scalars;
 pub mod sink;
-mod tokens;
+pub mod tokens;
 pub mod values;

@@ -34,7 +34,7 @@ fn scalar(text: &[u8]) -> Result<(LeafKind, &[u8]), Mismatch<'_>>
 
 /// A value that is no array and no object.
 // false / null / true / number / string
-pub(crate) fn read_scalar<'a, S: Sink>(text: &'a [u8], sink: &mut S) -> Result<&'a [u8], Fault<'a>>
+pub fn read_scalar<'a, S: Sink>(text: &'a [u8], sink: &mut S) -> Result<&'a [u8], Fault<'a>>
     ensures { Makes S.Sink.after scalar_p text.now sink.old result sink.new }
 {
     let (kind, rest) = scalar(text)?;
@@ -53,7 +53,7 @@ fn read_name<'a, S: Sink>(text: &'a [u8], sink: &mut S) -> Result<&'a [u8], Faul
 
 /// A member's name and colon, with the trivia behind each.
 // string name-separator
-pub(crate) fn read_label<'a, S: Sink>(text: &'a [u8], sink: &mut S) -> Result<&'a [u8], Fault<'a>>
+pub fn read_label<'a, S: Sink>(text: &'a [u8], sink: &mut S) -> Result<&'a [u8], Fault<'a>>
     ensures { Leads S.Sink.after labelled text.now sink.old result sink.new }
 {
     let gap = read_name(text, sink)?;

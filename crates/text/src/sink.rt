@@ -4,7 +4,7 @@ ghost use Rattle.std.specs.Prelude.{◌≡◌, List, [], ◌∷◌, ◌++◌};
 ghost use Rattle.grammar.specs.Pieces.{kept, token_byte};
 ghost use Rattle.text.specs.Events.{Enter, Event, Leave, Put, box_for, leaf_for, token_for};
 
-use line_break::NewlineKind;
+pub use line_break::NewlineKind;
 
 /// A token of the text; its code is its byte.
 #[derive(Clone, Copy)]

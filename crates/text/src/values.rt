@@ -120,7 +120,7 @@ fn read_nested<'a, S: Sink>(text: &'a [u8], levels: u8, sink: &mut S) -> Result<
 /// A value of at most so many levels.
 // value = false / null / true / object / array / number / string
 #[cycle(nesting)]
-pub(crate) fn read_value<'a, S: Sink>(
+pub fn read_value<'a, S: Sink>(
     text: &'a [u8],
     levels: u8,
     sink: &mut S,

@@ -41,10 +41,9 @@ pub enum NodeKind {
 fn token_class(token: char) -> Class
     ensures { (t : List ℕ) → result ≡ plain (class_of (sort_for (Kind.Token token) t)) }
 {
-    if token == ',' {
-        Class::Comma
-    } else {
-        Class::Mark
+    match token {
+        ',' => Class::Comma,
+        _ => Class::Mark,
     }
 }
 
