@@ -48,6 +48,7 @@ pub record Stopped (s : Start) (cs : List Call) (a b : Lent) (e : LoadError) : T
   pub answers : b.answers ≡ a.answers
   pub bytes : b.bytes ≡ a.bytes
   pub ordinals : b.ordinals ≡ a.ordinals
+  pub queue : b.queue ≡ a.queue
 
 -- what replay makes of the lent a: b
 abbrev pub Replayed : Start → List Call → Lent → Lent → Result (Unit {0}) LoadError → Type 0
