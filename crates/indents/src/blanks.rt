@@ -19,7 +19,12 @@ pub fn indent_end(node: Node<'_>) -> Option<Node<'_>>
     let mut end = None;
     for sibling in node.preceding() {
         match sibling.class() {
-            Class::Blank => end = end.or(Some(behind)),
+            // kept once it is known: `or` would write it anew at every turn
+            Class::Blank => {
+                if end.is_none() {
+                    end = Some(behind);
+                }
+            }
             Class::Break => return end,
             Class::Remark => end = None,
             Class::Comma | Class::Mark | Class::Value => return None,

@@ -7,7 +7,8 @@ ghost use Rattle.paths.specs.Ways.{path_of, measured, Few};
 
 use tree::Node;
 
-/// How many values and members stand before the node among its siblings.
+/// How many values and members stand before the node among its siblings. A call of its own, so that its loop has the registers to itself.
+#[inline(never)]
 pub fn ordinal(node: Node<'_>) -> usize
     ensures { result ≡ tally is_value (spot node.entry).here.before }
 {

@@ -1,5 +1,5 @@
 -- What is printed below a node, and how much that is at most.
-use Rattle.std.proofs.Common.{◌≡◌, ℕ, ◌+◌, ◌*◌, ◌≤◌, Bool, true, false, cond, List, [], ◌∷◌, ◌++◌, length, drop, vec_items, Some, None, Option, sym, refl, ap, ◌∙◌, arith, length-append, length-drop, length-take}
+use Rattle.std.proofs.Common.{◌≡◌, ℕ, ◌+◌, ◌*◌, ◌≤◌, Bool, true, false, cond, List, [], ◌∷◌, ◌++◌, length, drop, vec_items, sym, refl, ap, ◌∙◌, arith, length-append, length-drop, length-take}
 use Rattle.std.proofs.lemmas.Bool.{cond_both}
 use Rattle.forest.specs.Forest.{Forest, end, node, size, map}
 use Rattle.table.specs.declared.kind.Kind.{Kind}
@@ -16,11 +16,13 @@ use Rattle.tree.specs.declared.node.Node.{Node}
 use Rattle.tree.specs.Sorts.{sort_for, own_for, bytes_in}
 use Rattle.tree.specs.Well.{whole}
 use Rattle.tree.specs.Trees.{kids}
+use Rattle.tree.specs.declared.walks.Onward.{Onward}
+use Rattle.tree.specs.declared.walks.Onward.TheVariants.{Into, Past}
 use Rattle.tree.specs.declared.walks.Siblings.{Siblings}
-use Rattle.tree.specs.Steps.{is_box, spot, ahead, rest, child_spots}
+use Rattle.tree.specs.Steps.{is_box, spot, child_spots}
 use Rattle.tree.proofs.Spots.{fill}
 use Rattle.tree.proofs.Seen.{rooted, plug_is, store_few}
-use Rattle.tree.specs.Walks.{siblings_left, nodes_left}
+use Rattle.tree.specs.Walks.{nodes_from, siblings_left, nodes_left}
 use Rattle.tree.proofs.Listed.{rest_is, turn_on}
 
 -- a node prints its own bytes, what is inside it, and then come its siblings
@@ -100,45 +102,45 @@ printed_few n = omega (arith, printed_weight (spot n).kids, spot_few n)
 
 -- nor is that of any siblings
 pub siblings_few : (w : Siblings) → length (print (nodes_left w)) ≤ 68719476736
-siblings_few w = go w.at
+siblings_few w = go w.from
   where
-    go : (o : Option Node) → length (print (rest o)) ≤ 68719476736
-    go None = omega arith
-    go (Some n) = omega (arith, printed_weight (rest (Some n)), spot_few n)
+    go : (f : Onward) → length (print (nodes_from f)) ≤ 68719476736
+    go (Into n) = printed_few n
+    go (Past n) = omega (arith, printed_weight (spot n).here.after, spot_few n)
 
 -- the children of a node are what is below it
 pub below_is : (w : Siblings) (n : Node) → siblings_left w ≡ child_spots (spot n) → nodes_left w ≡ (spot n).kids
-below_is w n e = rest_is w.at ((spot n).here ∷ (spot n).ups) end (spot n).kids e
+below_is w n e = rest_is w ((spot n).here ∷ (spot n).ups) end (spot n).kids e
 
 -- A turn of a loop over siblings: the node that came, with what is left behind it.
-module _ (a b : Option Node) (n : Node) (t : ahead a ≡ spot n ∷ ahead b) where
+module _ (a b : Siblings) (n : Node) (t : siblings_left a ≡ spot n ∷ siblings_left b) where
   -- it prints its own bytes, what is below it where it is a container, and then come its siblings
-  turn_printed : (i : Bool) → is_box (sort_of (spot n)) ≡ i → print (rest a) ≡ spelt (sort_of (spot n)) ++ (print (cond i (spot n).kids end) ++ print (rest b))
+  turn_printed : (i : Bool) → is_box (sort_of (spot n)) ≡ i → print (nodes_left a) ≡ spelt (sort_of (spot n)) ++ (print (cond i (spot n).kids end) ++ print (nodes_left b))
   turn_printed i e =
       ap (λ y. print y) (turn_on a b n t)
-      ∙ (node_printed (spot n).here.place (spot n).here.own (spot n).kids (rest b) ∙ ap (λ j. spelt (sort_of (spot n)) ++ (print (cond j (spot n).kids end) ++ print (rest b))) e)
+      ∙ (node_printed (spot n).here.place (spot n).here.own (spot n).kids (nodes_left b) ∙ ap (λ j. spelt (sort_of (spot n)) ++ (print (cond j (spot n).kids end) ++ print (nodes_left b))) e)
 
-  pub turn_box : is_box (sort_of (spot n)) ≡ true → print (rest a) ≡ spelt (sort_of (spot n)) ++ (print (spot n).kids ++ print (rest b))
+  pub turn_box : is_box (sort_of (spot n)) ≡ true → print (nodes_left a) ≡ spelt (sort_of (spot n)) ++ (print (spot n).kids ++ print (nodes_left b))
   turn_box e = turn_printed true e
 
-  pub turn_leaf : is_box (sort_of (spot n)) ≡ false → print (rest a) ≡ spelt (sort_of (spot n)) ++ print (rest b)
+  pub turn_leaf : is_box (sort_of (spot n)) ≡ false → print (nodes_left a) ≡ spelt (sort_of (spot n)) ++ print (nodes_left b)
   turn_leaf e = turn_printed false e
 
   -- their lengths
-  pub long_box : is_box (sort_of (spot n)) ≡ true → length (print (rest a)) ≡ length (spelt (sort_of (spot n))) + (length (print (spot n).kids) + length (print (rest b)))
-  long_box e = ap length (turn_box e) ∙ omega (arith, length-append (spelt (sort_of (spot n))) (print (spot n).kids ++ print (rest b)), length-append (print (spot n).kids) (print (rest b)))
+  pub long_box : is_box (sort_of (spot n)) ≡ true → length (print (nodes_left a)) ≡ length (spelt (sort_of (spot n))) + (length (print (spot n).kids) + length (print (nodes_left b)))
+  long_box e = ap length (turn_box e) ∙ omega (arith, length-append (spelt (sort_of (spot n))) (print (spot n).kids ++ print (nodes_left b)), length-append (print (spot n).kids) (print (nodes_left b)))
 
-  pub long_leaf : is_box (sort_of (spot n)) ≡ false → length (print (rest a)) ≡ length (spelt (sort_of (spot n))) + length (print (rest b))
-  long_leaf e = ap length (turn_leaf e) ∙ length-append (spelt (sort_of (spot n))) (print (rest b))
+  pub long_leaf : is_box (sort_of (spot n)) ≡ false → length (print (nodes_left a)) ≡ length (spelt (sort_of (spot n))) + length (print (nodes_left b))
+  long_leaf e = ap length (turn_leaf e) ∙ length-append (spelt (sort_of (spot n))) (print (nodes_left b))
 
-  pub long_own : length (spelt (sort_of (spot n))) ≤ length (print (rest a))
+  pub long_own : length (spelt (sort_of (spot n))) ≤ length (print (nodes_left a))
   long_own =
       omega (
         arith,
         ap length (turn_printed (is_box (sort_of (spot n))) refl),
-        length-append (spelt (sort_of (spot n))) (print (cond (is_box (sort_of (spot n))) (spot n).kids end) ++ print (rest b)),
+        length-append (spelt (sort_of (spot n))) (print (cond (is_box (sort_of (spot n))) (spot n).kids end) ++ print (nodes_left b)),
       )
 
   -- fewer nodes are below it, and left
-  pub fewer : size (rest a) ≡ 1 + (size (spot n).kids + size (rest b))
+  pub fewer : size (nodes_left a) ≡ 1 + (size (spot n).kids + size (nodes_left b))
   fewer = ap (λ y. size y) (turn_on a b n t)

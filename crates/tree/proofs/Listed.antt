@@ -10,10 +10,12 @@ use Rattle.model.specs.Nodes.{Handle, Nodes, Class, gap, mark, value, class}
 use Rattle.model.specs.Asks.{Frame, Spot, sort_of, spot_handle, first_handle, any, tally, width, child_at, is_comma, is_gap, is_value, value_in, comma_at, trailing, then, or_else, last_at, behind_last}
 use Rattle.model.specs.State.{parent_spot}
 use Rattle.tree.specs.declared.node.Node.{Node}
+use Rattle.tree.specs.declared.walks.Onward.{Onward}
+use Rattle.tree.specs.declared.walks.Onward.TheVariants.{Into, Past}
 use Rattle.tree.specs.declared.walks.Siblings.{Siblings}
 use Rattle.tree.specs.declared.walks.Preceding.{Preceding}
-use Rattle.tree.specs.Steps.{spot, rest, back, ahead, behind, spots_on, spots_back, spots_up, child_spots, later_spots, earlier_spots}
-use Rattle.tree.specs.Walks.{siblings_left, preceding_left}
+use Rattle.tree.specs.Steps.{spot, rest, back, spots_on, spots_back, spots_up, child_spots, earlier_spots}
+use Rattle.tree.specs.Walks.{spots_from, nodes_from, siblings_left, nodes_left, preceding_left, before_left}
 
 -- as many as there are
 pub length_on : (us : List Frame) (bs ts : Nodes) → length (spots_on us bs ts) ≡ width ts
@@ -139,52 +141,89 @@ pub first_back : (o : Option Node) → option_map spot_handle (option_map spot o
 first_back None = refl
 first_back (Some n) = refl
 
--- what is left as spots is what is left as siblings
-pub rest_is : (o : Option Node) (us : List Frame) (bs ts : Nodes) → ahead o ≡ spots_on us bs ts → rest o ≡ ts
-rest_is None us bs end e = refl
-rest_is None us bs (node p i ks ts) e = let z : ◌≡◌ {A = ℕ} 0 1 = cc in absurd (omega arith)
-rest_is (Some n) us bs end e = let z : ◌≡◌ {A = ℕ} 0 1 = cc in absurd (omega arith)
-rest_is (Some n) us bs (node p i ks ts) e =
-    let z : spot n ≡ record { here = record { before = bs; place = p; own = i; after = ts }; kids = ks; ups = us } = cc in
+-- equal lists of spots have equal siblings
+same_on : (us : List Frame) (bs ts : Nodes) (vs : List Frame) (cs rs : Nodes) → spots_on us bs ts ≡ spots_on vs cs rs → ts ≡ rs
+same_on us bs end vs cs end e = refl
+same_on us bs end vs cs (node q j ls rs) e = let z : ◌≡◌ {A = ℕ} 0 1 = cc in absurd (omega arith)
+same_on us bs (node p i ks ts) vs cs end e = let z : ◌≡◌ {A = ℕ} 0 1 = cc in absurd (omega arith)
+same_on us bs (node p i ks ts) vs cs (node q j ls rs) e =
+    let z : ◌≡◌ {A = Spot} (record { here = record { before = bs; place = p; own = i; after = ts }; kids = ks; ups = us }) (record { here = record { before = cs; place = q; own = j; after = rs }; kids = ls; ups = vs }) = cc in
     ap (λ s. node s.here.place s.here.own s.kids s.here.after) z
 
-pub back_is : (o : Option Node) (us : List Frame) (ts bs : Nodes) → behind o ≡ spots_back us ts bs → back o ≡ bs
-back_is None us ts end e = refl
-back_is None us ts (node p i ks bs) e = let z : ◌≡◌ {A = ℕ} 0 1 = cc in absurd (omega arith)
-back_is (Some n) us ts end e = let z : ◌≡◌ {A = ℕ} 0 1 = cc in absurd (omega arith)
-back_is (Some n) us ts (node p i ks bs) e =
-    let z : spot n ≡ record { here = record { before = bs; place = p; own = i; after = ts }; kids = ks; ups = us } = cc in
+same_back : (us : List Frame) (ts bs : Nodes) (vs : List Frame) (rs cs : Nodes) → spots_back us ts bs ≡ spots_back vs rs cs → bs ≡ cs
+same_back us ts end vs rs end e = refl
+same_back us ts end vs rs (node q j ls cs) e = let z : ◌≡◌ {A = ℕ} 0 1 = cc in absurd (omega arith)
+same_back us ts (node p i ks bs) vs rs end e = let z : ◌≡◌ {A = ℕ} 0 1 = cc in absurd (omega arith)
+same_back us ts (node p i ks bs) vs rs (node q j ls cs) e =
+    let z : ◌≡◌ {A = Spot} (record { here = record { before = bs; place = p; own = i; after = ts }; kids = ks; ups = us }) (record { here = record { before = cs; place = q; own = j; after = rs }; kids = ls; ups = vs }) = cc in
     ap (λ s. node s.here.place s.here.own s.kids s.here.before) z
 
--- a loop over a node's children, or over the siblings before it, begins with all of them
-pub begin_on : (w v : Siblings) (s : Spot) → w ≡ v → siblings_left v ≡ child_spots s → rest w.at ≡ s.kids
-begin_on w v s e l = rest_is w.at (s.here ∷ s.ups) end s.kids (ap siblings_left e ∙ l)
+-- what is left as spots is what is left as siblings
+seen_on : (f : Onward) → (us : List Frame) × (bs : Nodes) × (spots_from f ≡ spots_on us bs (nodes_from f))
+seen_on (Into n) = ((spot n).here ∷ (spot n).ups, end, refl)
+seen_on (Past n) = ((spot n).ups, node (spot n).here.place (spot n).here.own (spot n).kids (spot n).here.before, refl)
 
-pub begin_back : (w v : Preceding) (s : Spot) → w ≡ v → preceding_left v ≡ earlier_spots s → back w.at ≡ s.here.before
-begin_back w v s e l = back_is w.at s.ups (node s.here.place s.here.own s.kids s.here.after) s.here.before (ap preceding_left e ∙ l)
+pub rest_is : (w : Siblings) (us : List Frame) (bs ts : Nodes) → siblings_left w ≡ spots_on us bs ts → nodes_left w ≡ ts
+rest_is w us bs ts e = let q = seen_on w.from in same_on q.0 q.1 (nodes_left w) us bs ts (sym q.2 ∙ e)
+
+-- a loop over a node's children, or over the siblings before it, begins with all of them
+pub begin_on : (w v : Siblings) (s : Spot) → w ≡ v → siblings_left v ≡ child_spots s → nodes_left w ≡ s.kids
+begin_on w v s e l = rest_is w (s.here ∷ s.ups) end s.kids (ap siblings_left e ∙ l)
+
+pub begin_back : (w v : Preceding) (s : Spot) → w ≡ v → preceding_left v ≡ earlier_spots s → before_left w ≡ s.here.before
+begin_back w v s e l =
+    same_back (spot w.at).ups (node (spot w.at).here.place (spot w.at).here.own (spot w.at).kids (spot w.at).here.after) (before_left w)
+    s.ups (node s.here.place s.here.own s.kids s.here.after) s.here.before (ap preceding_left e ∙ l)
 
 -- a turn of a loop: the node that came, with what is left behind it
-pub turn_on : (a b : Option Node) (n : Node) → ahead a ≡ spot n ∷ ahead b → rest a ≡ node (spot n).here.place (spot n).here.own (spot n).kids (rest b)
-turn_on None b n e = let z : ◌≡◌ {A = ℕ} 0 1 = cc in absurd (omega arith)
-turn_on (Some m) b n e =
-    let z : spot m ≡ spot n = cc in
-    let w : ahead b ≡ later_spots (spot m) = cc in
-    ap (λ y. node (spot m).here.place (spot m).here.own (spot m).kids y) (sym (rest_is b _ _ (spot m).here.after w))
-    ∙ ap (λ s. node s.here.place s.here.own s.kids (rest b)) z
+turned_on : (us : List Frame) (bs ts : Nodes) (s : Spot) (vs : List Frame) (cs rs : Nodes) → spots_on us bs ts ≡ s ∷ spots_on vs cs rs → ts ≡ node s.here.place s.here.own s.kids rs
+turned_on us bs end s vs cs rs e = let z : ◌≡◌ {A = ℕ} 0 1 = cc in absurd (omega arith)
+turned_on us bs (node p i ks ts) s vs cs rs e =
+    let z : record { here = record { before = bs; place = p; own = i; after = ts }; kids = ks; ups = us } ≡ s = cc in
+    let w : spots_on us (node p i ks bs) ts ≡ spots_on vs cs rs = cc in
+    ap (λ y. node p i ks y) (same_on us (node p i ks bs) ts vs cs rs w) ∙ ap (λ s. node s.here.place s.here.own s.kids rs) z
 
-pub turn_back : (a b : Option Node) (n : Node) → behind a ≡ spot n ∷ behind b → back a ≡ node (spot n).here.place (spot n).here.own (spot n).kids (back b)
-turn_back None b n e = let z : ◌≡◌ {A = ℕ} 0 1 = cc in absurd (omega arith)
-turn_back (Some m) b n e =
-    let z : spot m ≡ spot n = cc in
-    let w : behind b ≡ earlier_spots (spot m) = cc in
-    ap (λ y. node (spot m).here.place (spot m).here.own (spot m).kids y) (sym (back_is b _ _ (spot m).here.before w))
-    ∙ ap (λ s. node s.here.place s.here.own s.kids (back b)) z
+pub turn_on : (a b : Siblings) (n : Node) → siblings_left a ≡ spot n ∷ siblings_left b
+    → nodes_left a ≡ node (spot n).here.place (spot n).here.own (spot n).kids (nodes_left b)
+turn_on a b n e =
+    let q = seen_on a.from in
+    let r = seen_on b.from in
+    turned_on q.0 q.1 (nodes_left a) (spot n) r.0 r.1 (nodes_left b) (sym q.2 ∙ (e ∙ ap (λ ys. spot n ∷ ys) r.2))
+
+turned_back : (us : List Frame) (ts bs : Nodes) (s : Spot) (vs : List Frame) (rs cs : Nodes) → spots_back us ts bs ≡ s ∷ spots_back vs rs cs
+    → (bs ≡ node s.here.place s.here.own s.kids cs) × (s.here.before ≡ cs)
+turned_back us ts end s vs rs cs e = let z : ◌≡◌ {A = ℕ} 0 1 = cc in absurd (omega arith)
+turned_back us ts (node p i ks bs) s vs rs cs e =
+    let z : record { here = record { before = bs; place = p; own = i; after = ts }; kids = ks; ups = us } ≡ s = cc in
+    let w : spots_back us (node p i ks ts) bs ≡ spots_back vs rs cs = cc in
+    let l = same_back us (node p i ks ts) bs vs rs cs w in
+    (ap (λ y. node p i ks y) l ∙ ap (λ s. node s.here.place s.here.own s.kids cs) z, ap (λ s. s.here.before) (sym z) ∙ l)
+
+module _ (a b : Preceding) (n : Node) (e : preceding_left a ≡ spot n ∷ preceding_left b) where
+  turns : (before_left a ≡ node (spot n).here.place (spot n).here.own (spot n).kids (before_left b)) × ((spot n).here.before ≡ before_left b)
+  turns =
+      let s = spot a.at in
+      let t = spot b.at in
+      turned_back s.ups (node s.here.place s.here.own s.kids s.here.after) s.here.before (spot n) t.ups (node t.here.place t.here.own t.kids t.here.after) t.here.before e
+
+  pub turn_back : before_left a ≡ node (spot n).here.place (spot n).here.own (spot n).kids (before_left b)
+  turn_back = turns.0
+
+  -- what is left stands before the node that came
+  pub left_back : (spot n).here.before ≡ before_left b
+  left_back = turns.1
 
 -- nothing is left
-pub none_on : (a : Option Node) → ahead a ≡ [] → rest a ≡ end
-none_on None e = refl
-none_on (Some m) e = let z : ◌≡◌ {A = ℕ} 0 1 = cc in absurd (omega arith)
+emptied_on : (us : List Frame) (bs ts : Nodes) → spots_on us bs ts ≡ [] → ts ≡ end
+emptied_on us bs end e = refl
+emptied_on us bs (node p i ks ts) e = let z : ◌≡◌ {A = ℕ} 0 1 = cc in absurd (omega arith)
 
-pub none_back : (a : Option Node) → behind a ≡ [] → back a ≡ end
-none_back None e = refl
-none_back (Some m) e = let z : ◌≡◌ {A = ℕ} 0 1 = cc in absurd (omega arith)
+pub none_on : (a : Siblings) → siblings_left a ≡ [] → nodes_left a ≡ end
+none_on a e = let q = seen_on a.from in emptied_on q.0 q.1 (nodes_left a) (sym q.2 ∙ e)
+
+emptied_back : (us : List Frame) (ts bs : Nodes) → spots_back us ts bs ≡ [] → bs ≡ end
+emptied_back us ts end e = refl
+emptied_back us ts (node p i ks bs) e = let z : ◌≡◌ {A = ℕ} 0 1 = cc in absurd (omega arith)
+
+pub none_back : (a : Preceding) → preceding_left a ≡ [] → before_left a ≡ end
+none_back a e = let s = spot a.at in emptied_back s.ups (node s.here.place s.here.own s.kids s.here.after) s.here.before e

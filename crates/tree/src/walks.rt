@@ -7,24 +7,32 @@ ghost use Rattle.tree.specs.Walks.{siblings_left, preceding_left, ancestors_left
 
 use crate::node::Node;
 
-// The three differ in their step alone: one walk over any step would be a type parameter and a trait for three bodies of a line each.
+// The three differ in their step alone: one walk over any step would be a type parameter and a trait for three short bodies.
+// Each keeps the node that it came to, and reads a link only when it is asked for another.
 
-/// A node and its siblings behind it.
+/// Where a walk along siblings goes on: at the first child of a node, or at the sibling behind a node.
+#[derive(Clone, Copy)]
+enum Onward<'a> {
+    Into(Node<'a>),
+    Past(Node<'a>),
+}
+
+/// A walk along siblings, in order.
 #[derive(Drop)]
 pub struct Siblings<'a> {
-    at: Option<Node<'a>>,
+    from: Onward<'a>,
 }
 
-/// A node and its siblings before it, nearest first.
+/// A walk along the siblings before a node, nearest first.
 #[derive(Drop)]
 pub struct Preceding<'a> {
-    at: Option<Node<'a>>,
+    at: Node<'a>,
 }
 
-/// A node and its ancestors, the parent first.
+/// A walk up from a node, the parent first.
 #[derive(Drop)]
 pub struct Ancestors<'a> {
-    at: Option<Node<'a>>,
+    at: Node<'a>,
 }
 
 impl<'a> Iterator for Siblings<'a> {
@@ -35,8 +43,11 @@ impl<'a> Iterator for Siblings<'a> {
     ghost remaining = { item_count siblings_left };
 
     fn next(&mut self) -> Option<Node<'a>> {
-        let node = self.at?;
-        self.at = node.next();
+        let node = match self.from {
+            Onward::Into(above) => above.first()?,
+            Onward::Past(before) => before.next()?,
+        };
+        self.from = Onward::Past(node);
         Some(node)
     }
 }
@@ -49,9 +60,9 @@ impl<'a> Iterator for Preceding<'a> {
     ghost remaining = { item_count preceding_left };
 
     fn next(&mut self) -> Option<Node<'a>> {
-        let node = self.at?;
-        self.at = node.previous();
-        Some(node)
+        let sibling = self.at.previous()?;
+        self.at = sibling;
+        Some(sibling)
     }
 }
 
@@ -63,9 +74,9 @@ impl<'a> Iterator for Ancestors<'a> {
     ghost remaining = { item_count ancestors_left };
 
     fn next(&mut self) -> Option<Node<'a>> {
-        let node = self.at?;
-        self.at = node.parent();
-        Some(node)
+        let parent = self.at.parent()?;
+        self.at = parent;
+        Some(parent)
     }
 }
 
@@ -75,7 +86,8 @@ impl<'a> Node<'a> {
         ensures spots { siblings_left result ≡ child_spots (spot self.entry) }
         ensures few { length (siblings_left result) < 65535 }
     {
-        Siblings { at: self.first() }
+        let from = Onward::Into(self);
+        Siblings { from }
     }
 
     /// The siblings behind the node.
@@ -83,7 +95,8 @@ impl<'a> Node<'a> {
         ensures spots { siblings_left result ≡ later_spots (spot self.entry) }
         ensures few { length (siblings_left result) < 65535 }
     {
-        Siblings { at: self.next() }
+        let from = Onward::Past(self);
+        Siblings { from }
     }
 
     /// The siblings before the node, nearest first.
@@ -91,9 +104,7 @@ impl<'a> Node<'a> {
         ensures spots { preceding_left result ≡ earlier_spots (spot self.entry) }
         ensures few { length (preceding_left result) < 65535 }
     {
-        Preceding {
-            at: self.previous(),
-        }
+        Preceding { at: self }
     }
 
     /// The nodes above the node, its parent first.
@@ -101,6 +112,6 @@ impl<'a> Node<'a> {
         ensures spots { ancestors_left result ≡ ancestor_spots (spot self.entry) }
         ensures few { length (ancestors_left result) < 65535 }
     {
-        Ancestors { at: self.parent() }
+        Ancestors { at: self }
     }
 }

@@ -28,3 +28,13 @@ returns c =
     ∙ (sym (ap (λ s. filled n (print s.kids)) c.root-root.ensures.spot) ∙ fits n (print (spot c.root-root.result).kids) (omega (arith, size, c.if-out-size.false))))
     (c.write_from.ensures.end ∙ ap (λ y. 0 + length (print y)) same)
     (c.write_from.ensures.out ∙ ap (λ y. over c.args.out.now 0 (print y)) same)
+
+pub write_from-requires : goal.write_from-requires
+write_from-requires c =
+    omega (
+      arith,
+      c.if-out-size.false,
+      c.size_from-size.ensures,
+      ap (λ y. length (print y)) (below_is c.children.result c.root-root.result c.children.ensures.spots),
+      ap (λ y. length (print y)) (below_is c.children-2.result c.root-root.result c.children-2.ensures.spots),
+    )

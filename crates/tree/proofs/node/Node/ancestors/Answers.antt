@@ -1,6 +1,5 @@
-use Rattle.std.proofs.Common.{length, ap, arith}
 use Rattle.tree.proofs.Rooms.{ancestors_few}
 use Rattle.tree.proofs.node.Node.ancestors.Goals as goal
 
 pub returns-clause-few : goal.returns-clause-few
-returns-clause-few c = omega (arith, ancestors_few c.args.self, ap length c.parent.ensures.spots)
+returns-clause-few c = ancestors_few c.args.self

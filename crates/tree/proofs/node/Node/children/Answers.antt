@@ -1,6 +1,5 @@
-use Rattle.std.proofs.Common.{length, ap, arith}
 use Rattle.tree.proofs.Rooms.{children_few}
 use Rattle.tree.proofs.node.Node.children.Goals as goal
 
 pub returns-clause-few : goal.returns-clause-few
-returns-clause-few c = omega (arith, children_few c.args.self, ap length c.first.ensures.spots)
+returns-clause-few c = children_few c.args.self
