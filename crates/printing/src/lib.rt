@@ -3,7 +3,7 @@
 
 mod asks;
 pub mod buffers;
-mod sizes;
-mod writes;
+pub mod sizes;
+pub mod writes;
 
 pub use asks::{print, text};

@@ -7,7 +7,7 @@ ghost use Rattle.tree.specs.Walks.{nodes_left};
 use tree::Siblings;
 
 /// How many bytes the siblings print, with all below them.
-pub(crate) fn size_from(siblings: Siblings<'_>) -> usize
+pub fn size_from(siblings: Siblings<'_>) -> usize
     ensures { result ≡ length (printed (nodes_left siblings.entry)) }
 {
     let mut size = 0;

@@ -9,7 +9,7 @@ use crate::buffers::put;
 use tree::Siblings;
 
 /// Writes what the siblings print, with all below them, into the buffer from `start` on, and says where it ends.
-pub(crate) fn write_from(siblings: Siblings<'_>, out: &mut [u8], start: usize) -> usize
+pub fn write_from(siblings: Siblings<'_>, out: &mut [u8], start: usize) -> usize
     requires { start + length (printed (nodes_left siblings)) ≤ length out.old }
     ensures out { out.new ≡ over out.old start (printed (nodes_left siblings.entry)) }
     ensures end { result ≡ start + length (printed (nodes_left siblings.entry)) }

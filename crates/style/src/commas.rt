@@ -33,7 +33,7 @@ fn decision_at(node: Node<'_>) -> Option<bool>
 
 /// Whether trailing commas are used: what the first container decides that does, the node itself, then level by level below it; no
 /// where none does. The queue has a place for each record of the tree.
-pub(crate) fn uses_trailing_commas_in(node: Node<'_>, queue: &mut [Place]) -> bool
+pub fn uses_trailing_commas_in(node: Node<'_>, queue: &mut [Place]) -> bool
     requires { (state node.tree.now).records ≤ length queue.old }
     ensures { result ≡ uses_trailing_commas (spot node.entry).here.own.sort (spot node.entry).kids }
 {

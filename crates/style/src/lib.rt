@@ -10,4 +10,5 @@ mod levels;
 mod newline;
 
 pub use calls::{newline_kind, uses_trailing_commas};
-pub use newline::NewlineKind;
+pub use commas::uses_trailing_commas_in;
+pub use newline::{NewlineKind, newline_kind_in};

@@ -39,7 +39,7 @@ fn newline_at(node: Node<'_>) -> Option<NewlineKind>
 
 /// The document's line break: that of the first Newline, level by level, else a line feed.
 /// The queue has a place for each record of the tree.
-pub(crate) fn newline_kind_in(tree: &Tree, queue: &mut [Place]) -> NewlineKind
+pub fn newline_kind_in(tree: &Tree, queue: &mut [Place]) -> NewlineKind
     requires { (state tree.now).records ≤ length queue.old }
     ensures { kind_for result ≡ newline_kind (kids tree.now) }
 {
